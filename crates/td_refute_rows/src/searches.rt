@@ -1,4 +1,4 @@
-//! What searches find in small circuits.
+//! What searches find in small circuits, also beside all pairs that are admitted.
 
 ghost use Rattle.std.specs.Prelude.{◌≡◌, ◌≤◌, length, IfOk, IfSome};
 ghost use Rattle.td_circuit.specs.Numbering.{setting};
@@ -6,6 +6,7 @@ ghost use Rattle.td_domain.specs.Admits.{IsAdmitted};
 ghost use Rattle.td_event_sim.specs.Scratch.{IsFor};
 ghost use Rattle.td_lead.specs.Timed.{IsTimed};
 
+use crate::questions::{Question, admit_of, worst};
 use std::alloc::{AllocError, Global};
 use std::test::*;
 use td_circuit::{Circuit, build};
@@ -30,6 +31,15 @@ and #5 g0(c, a, s); or #1 g1(d, c, b); and #7 g2(e, d, t); or #1 g3(y, e, s); en
 const WIDE: &str = "module m(a, b, y); input a, b; output y; not #1 g0(c, a); not #2 g1(d, b);
 not #3 g2(e, c); not #1 g3(f, d); not #4 g4(g, e); xor #2 g5(y, a, b, c, d, e, f, g, a, c);
 endmodule";
+
+/// A signal that meets itself again.
+const RECONVERGENT: &str = "module t (a, b, y); input a, b; output y;
+    buf #1 p1(p,b); buf #1 p2(q,b); xor #3 g(y,a,p,q); endmodule";
+
+/// A question of these pins, held inputs and flips.
+fn asked<'a>(pins: &'a str, held: &'a str, flips: u32) -> Question<'a> {
+    Question { pins, held, flips }
+}
 
 /// The circuit of a text, if it has one.
 fn circuit_of(alloc: Global, text: &str) -> Option<Circuit> {
@@ -75,22 +85,23 @@ fn found_from(
     }
 }
 
-/// What a search finds among all pairs of a circuit.
+/// What a search finds among the admitted pairs of a circuit, if there are some.
 fn found_in(
     alloc: Global,
     circuit: &Circuit,
+    admit: &Admit,
     effort: Effort<'_>,
-) -> Result<Option<Found>, AllocError> {
-    let _few = circuit.gates();
-    let admit = Admit::all(alloc, circuit.input_count())?;
+) -> Result<Option<Found>, AllocError>
+    requires { length admit.now.held ≡ length circuit.now.netlist.inputs }
+{
     let pins = admit.pins();
     if !admit.any(pins) {
         return Ok(None);
     }
-    let pair = representative(alloc, pins, &admit)?;
+    let pair = representative(alloc, pins, admit)?;
     let mut scratch = Scratch::new(alloc, circuit)?;
-    let start = timed(&mut scratch, circuit, &admit, pair)?;
-    found_from(alloc, circuit, &admit, &mut scratch, start, effort)
+    let start = timed(&mut scratch, circuit, admit, pair)?;
+    found_from(alloc, circuit, admit, &mut scratch, start, effort)
 }
 
 /// An admitted pair with its delay.
@@ -111,10 +122,21 @@ fn timed(
     Ok(Timed { pair, time })
 }
 
+/// What a search finds among all pairs of a circuit.
+fn found_in_all(
+    alloc: Global,
+    circuit: &Circuit,
+    effort: Effort<'_>,
+) -> Result<Option<Found>, AllocError> {
+    let _few = circuit.gates();
+    let admit = Admit::all(alloc, circuit.input_count())?;
+    found_in(alloc, circuit, &admit, effort)
+}
+
 /// What a search finds among all pairs of the circuit of a text.
 fn found_in_text(alloc: Global, text: &str, effort: Effort<'_>) -> Option<Found> {
     let circuit = circuit_of(alloc, text)?;
-    match found_in(alloc, &circuit, effort) {
+    match found_in_all(alloc, &circuit, effort) {
         Ok(found) => found,
         Err(_) => None,
     }
@@ -125,6 +147,59 @@ fn no_effort(stop: &Stop) -> Effort<'_> {
     let mut effort = Effort::until(stop);
     effort.work = 0;
     effort
+}
+
+/// Whether a search finds the worst delay of the pairs that are asked about, and shows it.
+fn agrees(alloc: Global, circuit: &Circuit, question: Question<'_>) -> Result<bool, AllocError> {
+    let Some(admit) = admit_of(alloc, circuit, question)? else {
+        return Ok(false);
+    };
+    let wanted = worst(alloc, circuit, &admit)?;
+    match found_in(alloc, circuit, &admit, Effort::until(&Stop::never()))? {
+        Some(found) => Ok((found.low, found.high) == (wanted, wanted)),
+        None => Ok(false),
+    }
+}
+
+/// Whether searches agree with all pairs for each of these questions about the circuit of a text.
+fn all_agree(alloc: Global, text: &str, questions: &[Question<'_>]) -> Result<bool, AllocError> {
+    let Some(circuit) = circuit_of(alloc, text) else {
+        return Ok(false);
+    };
+    for question in questions {
+        if !agrees(alloc, &circuit, *question)? {
+            return Ok(false);
+        }
+    }
+    Ok(true)
+}
+
+#[test]
+fn questions_beside_all_pairs(rt: HostRuntime) -> Result<(), Fail> {
+    let alloc = rt.alloc();
+    let three = [
+        asked("......", "...", 3),
+        asked("......", "...", 2),
+        asked("......", "...", 1),
+        asked("......", "...", 0),
+        asked("......", "=..", 3),
+        asked("......", ".==", 3),
+        asked("1.....", "...", 3),
+        asked("...1.0", "..=", 2),
+        asked("01....", "...", 1),
+        asked("01..0.", "...", 2),
+    ];
+    assert!(rt; all_agree(alloc, FALSE_WAY, &three)?);
+    let two = [
+        asked("....", "..", 2),
+        asked("....", "..", 1),
+        asked("....", ".=", 2),
+        asked("10..", "..", 1),
+        asked("0..1", "..", 2),
+    ];
+    assert!(rt; all_agree(alloc, WIDE, &two)?);
+    assert!(rt; all_agree(alloc, RECONVERGENT, &two)?);
+    Ok(())
 }
 
 #[test]
