@@ -17,17 +17,15 @@ mod rules;
 mod sayings;
 mod signals;
 mod spans;
-mod step;
 mod times;
 mod variable;
 mod walk;
 
 pub use condition::{Condition, Form};
 pub use fault::Fault;
-pub use names::{net_named, variable_named};
+pub use names::net_named;
 pub use question::Question;
 pub use reason::Reason;
 pub use spans::Spans;
-pub use step::{Refusal, Shown, Step, refuted};
 pub use times::{Places, Times};
 pub use variable::{Saying, Variable};

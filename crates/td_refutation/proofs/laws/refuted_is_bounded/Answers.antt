@@ -1,5 +1,0 @@
-use Rattle.td_refutation.proofs.AllSteps.{refuted_is_bounded}
-use Rattle.td_refutation.proofs.laws.refuted_is_bounded.Goals as goal
-
-pub returns : goal.returns
-returns c = refuted_is_bounded
