@@ -1,0 +1,5 @@
+pub mod Lines
+pub mod Doing
+pub mod Lowers
+pub mod Refuting
+pub mod Whole

@@ -1,0 +1,16 @@
+//! Refutations: lines that show that no admitted pair of a cube changes an output later than a
+//! moment. A line is a letter and numbers, as a certificate has it; what it means is said by
+//! clauses on spans of places at which nets keep a level.
+#![tactic(auto)]
+
+mod flaw;
+mod kind;
+pub mod laws;
+mod lines;
+mod refutation;
+mod whole;
+
+pub use flaw::{Flaw, StepError};
+pub use kind::StepKind;
+pub use refutation::Refutation;
+pub use whole::{Refusal, Step, refuted};
