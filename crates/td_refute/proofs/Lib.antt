@@ -1,3 +1,1 @@
-mod StepLaws
-mod Fitting
 mod Worst

@@ -1,3 +1,1 @@
-pub mod Questions
-pub mod Steps
 pub mod Answers

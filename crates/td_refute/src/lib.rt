@@ -1,22 +1,13 @@
-//! The search for a refutation: it asks a solver which changes of nets are impossible, until no
-//! output can change later than the best pair found, or its effort is used up.
+//! The search for a refutation: by spans it finds the latest pair that it can, and lines that show
+//! that no pair is later than a bound.
 #![tactic(auto)]
 
-mod asked;
-mod asking;
-mod blaming;
-mod checking;
-mod climbing;
-mod down;
 mod effort;
-mod log;
-mod needs;
+mod names;
+mod pairs;
 mod refuting;
-mod runs;
-mod search;
+mod searching;
 mod spelling;
-mod sweep;
-mod trimming;
 
 pub use effort::Effort;
 pub use refuting::{Refuted, refute};

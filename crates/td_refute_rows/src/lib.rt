@@ -3,4 +3,6 @@
 #![tactic(auto)]
 
 #[cfg(test)]
+mod questions;
+#[cfg(test)]
 mod searches;

@@ -1,4 +1,4 @@
-//! What searches find in small circuits.
+//! What searches find in small circuits, also beside all pairs that are admitted.
 
 ghost use Rattle.std.specs.Prelude.{◌≡◌, ◌≤◌, length, IfOk, IfSome};
 ghost use Rattle.td_circuit.specs.Numbering.{setting};
@@ -6,6 +6,7 @@ ghost use Rattle.td_domain.specs.Admits.{IsAdmitted};
 ghost use Rattle.td_event_sim.specs.Scratch.{IsFor};
 ghost use Rattle.td_lead.specs.Timed.{IsTimed};
 
+use crate::questions::{Question, admit_of, worst};
 use std::alloc::{AllocError, Global};
 use std::test::*;
 use td_circuit::{Circuit, build};
@@ -31,6 +32,15 @@ const WIDE: &str = "module m(a, b, y); input a, b; output y; not #1 g0(c, a); no
 not #3 g2(e, c); not #1 g3(f, d); not #4 g4(g, e); xor #2 g5(y, a, b, c, d, e, f, g, a, c);
 endmodule";
 
+/// A signal that meets itself again.
+const RECONVERGENT: &str = "module t (a, b, y); input a, b; output y;
+    buf #1 p1(p,b); buf #1 p2(q,b); xor #3 g(y,a,p,q); endmodule";
+
+/// A question of these pins, held inputs and flips.
+fn asked<'a>(pins: &'a str, held: &'a str, flips: u32) -> Question<'a> {
+    Question { pins, held, flips }
+}
+
 /// The circuit of a text, if it has one.
 fn circuit_of(alloc: Global, text: &str) -> Option<Circuit> {
     let default = Delay::new(1, 1)?;
@@ -43,13 +53,12 @@ fn circuit_of(alloc: Global, text: &str) -> Option<Circuit> {
     }
 }
 
-/// What a search found: the best delay and the bound, and what it did.
+/// What a search found: the best delay, the bound, and how many lines show it.
 #[derive(Clone, Copy, Debug, PartialEq, Eq, Drop)]
 struct Found {
     low: u64,
     high: u64,
     steps: usize,
-    conflicts: u64,
 }
 
 /// What a search finds from an admitted pair on.
@@ -71,28 +80,28 @@ fn found_from(
             low: best.time,
             high: refuted.bound,
             steps: refuted.steps.len(),
-            conflicts: refuted.conflicts,
         })),
         None => Ok(None),
     }
 }
 
-/// What a search finds among all pairs of a circuit.
+/// What a search finds among the admitted pairs of a circuit, if there are some.
 fn found_in(
     alloc: Global,
     circuit: &Circuit,
+    admit: &Admit,
     effort: Effort<'_>,
-) -> Result<Option<Found>, AllocError> {
-    let _few = circuit.gates();
-    let admit = Admit::all(alloc, circuit.input_count())?;
+) -> Result<Option<Found>, AllocError>
+    requires { length admit.now.held ≡ length circuit.now.netlist.inputs }
+{
     let pins = admit.pins();
     if !admit.any(pins) {
         return Ok(None);
     }
-    let pair = representative(alloc, pins, &admit)?;
+    let pair = representative(alloc, pins, admit)?;
     let mut scratch = Scratch::new(alloc, circuit)?;
-    let start = timed(&mut scratch, circuit, &admit, pair)?;
-    found_from(alloc, circuit, &admit, &mut scratch, start, effort)
+    let start = timed(&mut scratch, circuit, admit, pair)?;
+    found_from(alloc, circuit, admit, &mut scratch, start, effort)
 }
 
 /// An admitted pair with its delay.
@@ -113,10 +122,21 @@ fn timed(
     Ok(Timed { pair, time })
 }
 
+/// What a search finds among all pairs of a circuit.
+fn found_in_all(
+    alloc: Global,
+    circuit: &Circuit,
+    effort: Effort<'_>,
+) -> Result<Option<Found>, AllocError> {
+    let _few = circuit.gates();
+    let admit = Admit::all(alloc, circuit.input_count())?;
+    found_in(alloc, circuit, &admit, effort)
+}
+
 /// What a search finds among all pairs of the circuit of a text.
 fn found_in_text(alloc: Global, text: &str, effort: Effort<'_>) -> Option<Found> {
     let circuit = circuit_of(alloc, text)?;
-    match found_in(alloc, &circuit, effort) {
+    match found_in_all(alloc, &circuit, effort) {
         Ok(found) => found,
         Err(_) => None,
     }
@@ -125,8 +145,61 @@ fn found_in_text(alloc: Global, text: &str, effort: Effort<'_>) -> Option<Found>
 /// The effort that a search makes without questions.
 fn no_effort(stop: &Stop) -> Effort<'_> {
     let mut effort = Effort::until(stop);
-    effort.all = 0;
+    effort.work = 0;
     effort
+}
+
+/// Whether a search finds the worst delay of the pairs that are asked about, and shows it.
+fn agrees(alloc: Global, circuit: &Circuit, question: Question<'_>) -> Result<bool, AllocError> {
+    let Some(admit) = admit_of(alloc, circuit, question)? else {
+        return Ok(false);
+    };
+    let wanted = worst(alloc, circuit, &admit)?;
+    match found_in(alloc, circuit, &admit, Effort::until(&Stop::never()))? {
+        Some(found) => Ok((found.low, found.high) == (wanted, wanted)),
+        None => Ok(false),
+    }
+}
+
+/// Whether searches agree with all pairs for each of these questions about the circuit of a text.
+fn all_agree(alloc: Global, text: &str, questions: &[Question<'_>]) -> Result<bool, AllocError> {
+    let Some(circuit) = circuit_of(alloc, text) else {
+        return Ok(false);
+    };
+    for question in questions {
+        if !agrees(alloc, &circuit, *question)? {
+            return Ok(false);
+        }
+    }
+    Ok(true)
+}
+
+#[test]
+fn questions_beside_all_pairs(rt: HostRuntime) -> Result<(), Fail> {
+    let alloc = rt.alloc();
+    let three = [
+        asked("......", "...", 3),
+        asked("......", "...", 2),
+        asked("......", "...", 1),
+        asked("......", "...", 0),
+        asked("......", "=..", 3),
+        asked("......", ".==", 3),
+        asked("1.....", "...", 3),
+        asked("...1.0", "..=", 2),
+        asked("01....", "...", 1),
+        asked("01..0.", "...", 2),
+    ];
+    assert!(rt; all_agree(alloc, FALSE_WAY, &three)?);
+    let two = [
+        asked("....", "..", 2),
+        asked("....", "..", 1),
+        asked("....", ".=", 2),
+        asked("10..", "..", 1),
+        asked("0..1", "..", 2),
+    ];
+    assert!(rt; all_agree(alloc, WIDE, &two)?);
+    assert!(rt; all_agree(alloc, RECONVERGENT, &two)?);
+    Ok(())
 }
 
 #[test]
@@ -153,9 +226,9 @@ fn a_wide_gate(rt: HostRuntime) -> Result<(), Fail> {
 }
 
 #[test]
-fn without_conflicts_the_bound_is_that_of_the_first_sets(rt: HostRuntime) -> Result<(), Fail> {
+fn without_work_the_bound_is_that_of_the_first_times(rt: HostRuntime) -> Result<(), Fail> {
     let found = found_in_text(rt.alloc(), FALSE_WAY, no_effort(&Stop::never())).ok_or("found")?;
-    assert_eq!(rt; (found.high, found.steps, found.conflicts), (14, 0, 0));
+    assert_eq!(rt; (found.high, found.steps), (14, 0));
     Ok(())
 }
 

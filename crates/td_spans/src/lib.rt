@@ -26,6 +26,7 @@ pub use fault::Fault;
 pub use names::net_named;
 pub use question::Question;
 pub use reason::Reason;
+pub use signals::first_times;
 pub use spans::Spans;
 pub use times::{Places, Times};
 pub use variable::{Saying, Variable};

@@ -88,9 +88,9 @@ impl OpenAnswer {
     }
 }
 
-/// What a refutation makes of an answer. An exact answer stays as it is. The solver meets at most
-/// as many conflicts as the budget says, and the search ends once the stop is set. Where memory
-/// runs out, what was known stands.
+/// What a refutation makes of an answer. An exact answer stays as it is. The search ends after as
+/// many units of work as the budget says, or once the stop is set. Where memory runs out, what was
+/// known stands.
 pub fn refuted_further(
     alloc: Global,
     problem: &Problem<'_>,
@@ -101,7 +101,7 @@ pub fn refuted_further(
     requires some { 0 < budget }
     requires known { IsSoundAnswer (problem_of problem.now) budget known }
     requires text { CanBeWritten (problem_of problem.now) known }
-    ensures answer { IsSoundAnswer (problem_of problem.now) budget result }
+    ensures answer { (nodes : ℕ) → 0 < nodes → IsSoundAnswer (problem_of problem.now) nodes known → IsSoundAnswer (problem_of problem.now) nodes result }
     ensures text { CanBeWritten (problem_of problem.now) result }
     ensures narrower { IsNarrower known result }
     ensures time { TimeNeedsStop stop.now.can_be_set result }
@@ -137,7 +137,7 @@ fn refute_open_answer(
 ) -> Answer
     requires some { 0 < budget }
     requires known { IsOpenAnswer (problem_of problem.now) budget known }
-    ensures answer { IsSoundAnswer (problem_of problem.now) budget result }
+    ensures answer { (nodes : ℕ) → 0 < nodes → IsOpenAnswer (problem_of problem.now) nodes known → IsSoundAnswer (problem_of problem.now) nodes result }
     ensures text { CanBeWritten (problem_of problem.now) result }
     ensures low { known.best.time ≤ low_of result }
     ensures high { high_of result ≤ known.high }
@@ -170,7 +170,7 @@ fn search(
 {
     let mut scratch = Scratch::new(alloc, problem.circuit)?;
     let mut effort = Effort::until(stop);
-    effort.all = budget;
+    effort.work = budget;
     refute(
         alloc,
         &mut scratch,

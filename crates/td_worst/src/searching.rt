@@ -1,6 +1,6 @@
 //! The search for the worst delay, by any means.
 
-ghost use Rattle.std.specs.Prelude.{◌≡◌, ◌≤◌, ◌+◌, ℕ, length, IfOk, IfErr};
+ghost use Rattle.std.specs.Prelude.{◌≡◌, ◌<◌, ◌≤◌, ◌+◌, ℕ, length, IfOk, IfErr};
 ghost use Rattle.td_search.specs.Answers.{IsSearchFault, TimeNeedsStop};
 ghost use Rattle.td_search.specs.Problems.{problem_by};
 ghost use Rattle.td_search.specs.declared.strategy.Strategy.TheVariants as strategy;
@@ -18,20 +18,36 @@ use td_domain::Admit;
 use td_pool::{Effort, Limits, Watch, search};
 use td_search::{Answer, Cause, Own, Problem, SearchFault, Strategy};
 
-/// How many nodes of a tree as `Least` has it `Auto` handles at most.
-const FIRST_NODES: u64 = 10_000;
+/// How many nodes a tree has at most, and how many gates, at most, all its nodes together: a node
+/// takes the longer the more gates there are.
+#[derive(Clone, Copy, Drop)]
+struct Share {
+    nodes: u64,
+    gates: u64,
+}
 
-/// How many nodes of a tree as `Lead` has it `Auto` handles at most.
-const SECOND_NODES: u64 = 50_000;
+/// What `Auto` gives its first tree, as `Least` has it.
+const FIRST: Share = Share {
+    nodes: 10_000,
+    gates: 60_000,
+};
 
-/// How many gates, at most, `Auto` handles in all nodes of that tree together. A node takes the
-/// longer the more gates there are, and what such a tree doesn't end soon a refutation may.
-const SECOND_GATES: u64 = 60_000_000;
+/// What it gives its second one, as `Lead` has it.
+const SECOND: Share = Share {
+    nodes: 8_000,
+    gates: 4_000_000,
+};
+
+/// What it gives its last one, as `Lead` has it, after the search by spans.
+const LAST: Share = Share {
+    nodes: 200_000,
+    gates: 100_000_000,
+};
 
 /// Searches for the worst delay of the admitted pairs of a circuit, by a method. The pairs are of
 /// the circuit's inputs. Trees have at most as many nodes as the budget of the effort says, and a
-/// solver meets at most that many conflicts. Once the stop is set, the search ends, and the answer
-/// says what is known by then. The watch gets the progress of a tree.
+/// search for a refutation ends after that many units of work. Once the stop is set, the search
+/// ends, and the answer says what is known by then. The watch gets the progress of a tree.
 ///
 /// # Errors
 ///
@@ -100,8 +116,8 @@ fn by_refutation<W: Watch, R: Threads + Wait + Sync>(
     Ok(refuted_further(alloc, &problem, known, effort.budget, stop))
 }
 
-// Searches a tree by `Least`, then one by `Lead`, and then for a refutation, until one of them
-// ends.
+// Searches a tree by `Least`, then one by `Lead`, then for a refutation, and then a larger tree by
+// `Lead`, until one of them ends.
 fn by_all<W: Watch, R: Threads + Wait + Sync>(
     rt: &R,
     alloc: Global,
@@ -123,15 +139,38 @@ fn by_all<W: Watch, R: Threads + Wait + Sync>(
         strategy: Strategy::Least,
     };
     let Limits { effort, stop } = limits;
-    let first = with_nodes(limits, effort.budget.min(FIRST_NODES));
-    let known = search(rt, alloc, &problem, &Own, first, watch)?;
-    if effort.budget <= FIRST_NODES || !is_open(&known) {
+    let budget = effort.budget;
+    let first = nodes_of(circuit, FIRST, budget);
+    let known = search(rt, alloc, &problem, &Own, with_nodes(limits, first), watch)?;
+    if budget == 0 || !is_open(&known) {
         return Ok(known);
     }
-    let rest = second_nodes(circuit, admit, effort.budget - FIRST_NODES);
-    let second = with_nodes(limits, rest);
-    let known = led_further(rt, alloc, circuit, admit, known, second, watch);
-    Ok(refuted_further(alloc, &problem, known, effort.budget, stop))
+    let left = budget - first;
+    let second = nodes_of(circuit, SECOND, left);
+    let known = led_further(
+        rt,
+        alloc,
+        circuit,
+        admit,
+        known,
+        with_nodes(limits, second),
+        watch,
+    );
+    let known = refuted_further(alloc, &problem, known, budget, stop);
+    if !is_open(&known) {
+        return Ok(known);
+    }
+    let last = nodes_of(circuit, LAST, left - second);
+    let known = led_further(
+        rt,
+        alloc,
+        circuit,
+        admit,
+        known,
+        with_nodes(limits, last),
+        watch,
+    );
+    Ok(known)
 }
 
 // The same limits with fewer nodes.
@@ -148,17 +187,13 @@ fn with_nodes(limits: Limits<'_>, budget: u64) -> Limits<'_>
     Limits { effort, stop }
 }
 
-// How many of the remaining nodes the second tree handles: all of them where flips are limited,
-// since a refutation knows nothing of flips, and fewer where there are many gates.
-fn second_nodes(circuit: &Circuit, admit: &Admit, rest: u64) -> u64
-    ensures { result ≤ rest }
+// How many of the nodes that are left a tree with this share has, one at least where one is left.
+fn nodes_of(circuit: &Circuit, share: Share, left: u64) -> u64
+    ensures few { result ≤ left }
+    ensures some { 0 < left → 0 < result }
 {
-    if (admit.flips() as usize) < circuit.input_count() {
-        rest
-    } else {
-        let gates = circuit.gates().len().max(1) as u64;
-        rest.min(SECOND_NODES).min(SECOND_GATES / gates)
-    }
+    let gates = circuit.gates().len().max(1) as u64;
+    share.nodes.min(share.gates / gates).max(1).min(left)
 }
 
 // Whether an answer isn't exact for its budget alone.
@@ -169,7 +204,7 @@ fn is_open(answer: &Answer) -> bool {
     }
 }
 
-// What a tree by `Lead` makes of an answer.
+// What a tree by `Lead` makes of an answer, where it may have nodes.
 fn led_further<W: Watch, R: Threads + Wait + Sync>(
     rt: &R,
     alloc: Global,
@@ -187,6 +222,9 @@ fn led_further<W: Watch, R: Threads + Wait + Sync>(
     ensures time { TimeNeedsStop limits.entry.stop.now.can_be_set known → TimeNeedsStop limits.entry.stop.now.can_be_set result }
     ensures reported { W.reported (problem_by strategy.Least circuit.now admit.now) watch.old watch.new }
 {
+    if limits.effort.budget == 0 {
+        return known;
+    }
     let problem = Problem {
         circuit,
         admit,

@@ -1,5 +1,0 @@
-use Rattle.td_domain.specs.PairBits.{AreAdmitted}
-use Rattle.td_refute.proofs.asked.put_all.Given as goal
-
-abbrev pub invariant-loop-input : goal.invariant-loop-input
-invariant-loop-input l = AreAdmitted l.admit l.pair
