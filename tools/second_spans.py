@@ -79,6 +79,27 @@ def surely(stretches, delay, other):
     return found
 
 
+def sure_spans(circuit, gate, level, spans):
+    """The spans at which a gate's output surely is at a level, by spans of nets of which the first
+    counts.
+    """
+    said = {net: [] for net in gate.inputs}
+    constants = [Span(circuit.inputs + each, each, 0, EVER) for each in (0, 1)]
+    for span in [*spans, *constants]:
+        if span.net in said:
+            said[span.net].append(span)
+    delays = gate.fall, gate.rise
+    stretches = stretches_at(level, gate.kind, gate.inputs, said)
+    return surely(stretches, delays[level], delays[1 - level])
+
+
+def is_sure(circuit, target, spans):
+    """Whether a gate's output surely has a span by these spans of nets."""
+    gate = circuit.gates[target.net - circuit.inputs - 2]
+    sure = sure_spans(circuit, gate, target.level, spans)
+    return any(first <= target.first and target.last <= last for first, last in sure)
+
+
 class Leaf:
     """A leaf under way, of a cube of levels and a question."""
 
@@ -146,22 +167,9 @@ class Leaf:
     def by_gate(self, *clause):
         require(1 <= len(clause) <= MOST)
         target = self.says(clause[0])
-        require(target)
-        gate = self.gate_of(target.net)
-        said = {net: [] for net in gate.inputs}
-        for span in (self.says(literal ^ 1) for literal in clause[1:]):
-            if span and span.net in said:
-                said[span.net].append(span)
-        for level in (0, 1):
-            net = self.circuit.inputs + level
-            said.get(net, []).append(Span(net, level, 0, EVER))
-        delays = gate.fall, gate.rise
-        sure = surely(
-            stretches_at(target.level, gate.kind, gate.inputs, said),
-            delays[target.level],
-            delays[1 - target.level],
-        )
-        require(any(first <= target.first and target.last <= last for first, last in sure))
+        require(target and self.gate_of(target.net))
+        spans = [self.says(literal ^ 1) for literal in clause[1:]]
+        require(is_sure(self.circuit, target, [span for span in spans if span]))
         return clause
 
     def by_table(self, *clause):
