@@ -5,10 +5,10 @@ all that is late in it earlier by some steps.
 from second_spans import STEPS, VARIABLES
 
 # Lines that stand where they don't belong, or are good or bad by what stands before them.
-LINES = ["u", "u 0 1", "l 0 0", "l 0 1 2 3 4 5 6", "l 1 0 1", "l 0", "l", "r", "r 4", "r 0", "r 5 1"]
+LINES = ["u", "u 0 1", "l 0 0", "l 0 1 2 3 4 5 6", "l 1 0 1", "l 0", "l", "r", "r 4", "r 0"]
 LINES += ["e 5 1 3 1 0 1", "e 4 0 0 0 1", "c 0 0", "c 1 1", "i 2", "f 2", "f 0", "w 4 0 0"]
 LINES += ["w 4 1 3 1", "w 1 1 0", "g 0", "g", "g 2 1", "t", "t 0 3", "n 0 1", "n 1 0"]
-LINES += ["k", "k 0", "k 0 3"]
+LINES += ["k", "k 0", "k 0 3", "r 5 1"]
 # Lines of a tree.
 LEAVES = ["x", "q 0", "none", "p 0", "b e 0", "b a 5", "s 0", "s 1", "b n 3", "q none", "x 0"]
 # Which words of a line are places or moments.

@@ -2,6 +2,8 @@
 in each of them, and whether its nets are at rest when their ends say so.
 """
 
+from operator import ne
+
 from . import event_queue
 
 import second_opinion as opinion
@@ -40,11 +42,8 @@ class Runs:
         if variable.letter == "w":
             return self.stays(*variable.of)
         inputs, least = variable.of
-        return sum(
-            1 << which
-            for which, pair in enumerate(self.pairs)
-            if sum(a != b for a, b in zip(pair[: 2 * inputs : 2], pair[1 : 2 * inputs : 2])) >= least
-        )
+        flips = [sum(map(ne, it[: 2 * inputs : 2], it[1 : 2 * inputs : 2])) for it in self.pairs]
+        return sum(1 << which for which, count in enumerate(flips) if count >= least)
 
     def fault_in(self, leaf):
         """What isn't true of what a leaf says, None where all is."""
