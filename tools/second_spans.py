@@ -1,5 +1,5 @@
-"""Leaves by spans of second_opinion.py, as docs/CERTIFICATE.md, "Leaves by spans", has them. Whoever
-wrote this wrote that part of the page, too, and hadn't looked at the sources.
+"""Leaves by spans of second_opinion.py, as docs/CERTIFICATE.md, "Leaves by spans", has them.
+Whoever wrote this wrote that part of the page, too, and hadn't looked at the sources.
 
 A `Leaf` is a leaf under way: its variables and clauses, and what is known of the nets. Its lines
 are taken one by one; one that doesn't meet its needs is a `BadStep`. Nets have the numbers of
