@@ -29,16 +29,7 @@ from second_opinion import X
 from second_spans import STEPS, VARIABLES
 
 CASES = 3000
-# The netlist of the page's example, and what is said of it with one text in place of another.
-EXAMPLE = """module t (a, b, y);
-input a, b;
-output y;
-buf #5 p (c, a);
-and #(1,2) g (d, c, b);
-not #1 n (e, b);
-and #1 h (y, d, e);
-endmodule
-"""
+# What is said of the page's example, with one text in place of another.
 CHANGES = [
     ("", "", "accepted 3"),
     ("\nw 6 0 2\n", "\nw 6 0 1\n", "refused 10 BadStep line 16"),
@@ -204,8 +195,9 @@ def compare(setup, lines, origin, wanted=None):
 def compare_example(tested):
     """Cases: the example of the page, whole and changed."""
     page = places.text_of("docs", "CERTIFICATE.md")
+    netlist = re.search(r"(?s)```\n(module .*?)```", page)[1]
     example = re.search(r"(?s)```\n(tdelay-cert 5\n.*?)```", page)[1]
-    setup = opinions.Setup(tested, random.Random(0), EXAMPLE.encode())
+    setup = opinions.Setup(tested, random.Random(0), netlist.encode())
     setup.defaults = []
     for old, new, wanted in CHANGES:
         compare(setup, example.replace(old, new, 1).encode(), "of the page", wanted)
