@@ -17,8 +17,8 @@ from second_spans import EVER, BadStep, Leaf, Span, is_sure, sure_spans
 # it is a span of a gate's output, the literal is written when it is needed; where a bit of an input
 # says it, `of` is None, or the letter `u` where the leaf's cube has the bit.
 Fact = namedtuple("Fact", "span literal of")
-# How a net is to be shown at rest: the literals of which one holds, the net, the levels that do,
-# from which place on, and the literal that its last level is such a one, if any.
+# How a net is to be shown at rest: the literals of which one holds; the net, and at which levels it
+# may be from which place on; and the literal that its last level is another one, if any.
 Goal = namedtuple("Goal", "literals net levels place last")
 
 
