@@ -22,7 +22,7 @@ import sys
 
 import opinions
 from lib import check, event_queue, places, refuting, tampering, truth
-from lib.netlists import random_netlist
+from lib.netlists import random_netlist, wide_netlist
 
 import second_opinion as opinion
 from second_opinion import X
@@ -264,10 +264,10 @@ def compare_own(setup, question, worst, pair):
 def compare_circuit(tested, rng):
     """Makes a circuit and certificates for it, and compares what is said of them."""
     kind = rng.random()
-    if kind < 0.7:
-        text, _, _ = random_netlist(rng, *((3, 12) if kind < 0.5 else (5, 25)))
+    if kind < 0.65:
+        text, _, _ = random_netlist(rng, *((3, 12) if kind < 0.45 else (5, 25)))
     else:
-        text = opinions.random_circuit(rng)
+        text = opinions.random_circuit(rng) if kind < 0.95 else wide_netlist(rng)
     setup = opinions.Setup(tested, rng, text.encode("latin-1"))
     circuit = setup.circuit
     if circuit is None or 4**circuit.inputs > PAIRS:
