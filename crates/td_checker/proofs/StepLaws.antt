@@ -73,11 +73,13 @@ first_bad_step circuit asked cube all left after_ place old new kind numbers fla
     let state_is : state_of old ≡ state_to circuit first (take place all) = so_far.led.is ∙ ap (λ (steps : List Step). state_to circuit first steps) (sym front_is) in
     record {
       low = omega (arith, place_low circuit asked cube all left place old so_far, few);
-      step = this;
-      stands = ap (slice_get all) so_far.place_is ∙ ap (λ (steps : List Step). slice_get steps (length so_far.front)) whole ∙ at_seam so_far.front this after_;
-      good = subst (λ (steps : List Step). AreGood circuit asked cube first steps) (sym front_is) so_far.led.good;
-      bad = λ good. bad.0 (subst (λ (s : State). IsGood circuit asked cube s (deed_of circuit kind numbers)) (sym state_is) good);
-      why = bad.1;
+      first = record {
+        step = this;
+        stands = ap (slice_get all) so_far.place_is ∙ ap (λ (steps : List Step). slice_get steps (length so_far.front)) whole ∙ at_seam so_far.front this after_;
+        good = subst (λ (steps : List Step). AreGood circuit asked cube first steps) (sym front_is) so_far.led.good;
+        bad = λ good. bad.0 (subst (λ (s : State). IsGood circuit asked cube s (deed_of circuit kind numbers)) (sym state_is) good);
+        why = bad.1;
+      };
     }
 
 pub all_done : (circuit : Numbered) (asked : Asked) (cube : List Trit) (all left after_ : List Step) (place : ℕ) (refutation : Refutation) (numbers : List ℕ)
@@ -106,10 +108,8 @@ module _ (circuit : Numbered) (numbering : IsNumbering circuit) (admit : Admitte
       → IsFlawed (setting circuit) admit time line (BadStep (1 + place - 1) flaw) (1 + place)
   bad_step_found place flaw bad =
       let back : 1 + place - 1 ≡ place = omega arith in
-      let below = slice_get_within refuted.steps place bad.step bad.stands in
-      let so : IsFirstBadStep circuit (all_admitted admit) cube refuted.steps place flaw =
-      subst (λ (a : Asked). IsFirstBadStep circuit a cube refuted.steps place flaw) is bad in
-      let first : IsFirstBad circuit admit cube refuted.steps place flaw = record { step = so.step; stands = so.stands; good = so.good; bad = so.bad; why = so.why } in
+      let below = slice_get_within refuted.steps place bad.first.step bad.first.stands in
+      let first : IsFirstBad circuit (all_admitted admit) cube refuted.steps place flaw = subst (λ (a : Asked). IsFirstBad circuit a cube refuted.steps place flaw) is bad.first in
       let here : IsBadStep (setting circuit) admit cube refuted.steps place flaw = record { circuit = circuit; of_setting = of_setting; first = first } in
       record {
         has = subst (λ (p : ℕ). IsBadStep (setting circuit) admit cube refuted.steps p flaw) (sym back) here;
