@@ -90,6 +90,7 @@ LINES = [
     b"tdelay-cert 2",
     b"tdelay-cert 3",
     b"tdelay-cert 4",
+    b"tdelay-cert 5",
     b"s 0",
     b"s 1",
     b"b a 0",
@@ -99,6 +100,14 @@ LINES = [
     b"b n 2",
     b"p 3",
     b"none",
+    b"x",
+    b"f 2",
+    b"w 2 1 1",
+    b"g 0 1",
+    b"l 0 0",
+    b"e 2 0 1 0 0",
+    b"r 4",
+    b"q 3",
     b"time 99",
     b"flips 1",
     b"hold .",
@@ -328,6 +337,7 @@ class Netlist:
             ["--flips", "1"],
             ["--at", ",".join(["3"] * self.inputs)],
             ["--strategy", "lead"],
+            ["--strategy", "refute"],
         ]
         self.certificates = [certificate_of(tested, words) for words in whole]
         free = "." * (self.inputs - 1)

@@ -544,7 +544,7 @@ def compare_bounds(setup, question):
     )
 
 
-def worst(setup, words, budget):
+def worst(setup, words, budget, strategy):
     """The certificate that `worst` writes, or None where it has no exact answer."""
     options = [
         f"--{name}={value}"
@@ -554,7 +554,6 @@ def worst(setup, words, budget):
     if words["at"]:
         options.append("--at=" + ",".join(map(str, words["at"])))
     setup.tested.remove("written")
-    strategy = setup.rng.choice(["least", "lead"])
     setup.program(
         "worst",
         "t.v",
@@ -593,7 +592,7 @@ def compare_circuit(tested, rng):
         return compare_check(setup, b"tdelay-cert 1\n", "own")
     for _ in range(3):
         words = random_question(rng, setup.circuit.inputs)
-        written = worst(setup, words, rng.choice([1, 50, 300, 1000]))
+        written = worst(setup, words, rng.choice([1, 50, 300, 1000]), rng.choice(["least", "lead"]))
         if written:
             compare_mutated(setup, written, "of a search", 2)
         question = question_of(words, setup.circuit.inputs)

@@ -78,7 +78,7 @@ CHANGED = {
     "other_bound.cert": ("inverter.cert", b"b a 3", b"b a 2"),
 }
 # Pages with commands that a check reads which has the tools for them.
-ELSEWHERE = {"docs/FROM-RTL.md": "bridging/designs.py", "docs/MANY-MACHINES.md": "other_solvers.py"}
+ELSEWHERE = {"docs/FROM-RTL.md": "bridging/designs.py", "docs/MANY-MACHINES.md": "parts.py"}
 # Numbers of README.md, each with the page or script that has it too.
 COSTS = "docs/FIGURES.md"
 NUMBERS = [

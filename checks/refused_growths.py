@@ -10,7 +10,7 @@ search is measured and bounded, and its report isn't begun, a growth refused alo
 out of memory: it has to answer. That is so after as many growths as the same search takes with a
 budget of 0, and until the last ones, which are the report's. Searches are those of a lost pulse, of
 two ways that meet, and of a slow arm, by 1, 2 and 4 workers. `check` gives its verdict, of a
-certificate by refutation too, or is out of memory, and never another verdict.
+certificate with a leaf by spans too, or is out of memory, and never another verdict.
 
 Each case is a refused growth, or all from one on. All of them are some 32,000, of which those after
 roots are tried, and a random choice of the others. Of 100 cases 5 at least are searches of which

@@ -3,15 +3,16 @@
 with runs of all admitted pairs.
 
 Makes small random circuits and questions, and for each of them certificates whose trees have leaves
-by refutation among others (lib/refuting.py), good ones, and ones with lines of such leaves changed,
-taken away, doubled or put elsewhere, with random steps put in, and with lesser claims. The program
-has to accept the good ones. Of each certificate both have to say the same, verdict and line, or
-fault of the text and line. The time of one that the program accepts has to be the greatest delay of
-all admitted pairs by an event queue (lib/event_queue.py), which knows no refutations. The example
-of docs/CERTIFICATE.md, with the changes that stand after it, comes first, and then a leaf with as
-many variables as it may have and one with one more, which the second opinion isn't asked about. A
-case is one certificate. The files of the first difference are kept in DIR, where `--keep DIR` names
-one.
+by spans among others (lib/refuting.py): good ones; ones with lines of such leaves changed, taken
+away, doubled or put elsewhere, with lines put in (lib/tampering.py), and with lesser claims, all
+that is late being sooner; leaves of random steps; and those that `worst` writes. The program has to
+accept the good ones. Of each certificate both have to say the same, verdict and line, or fault of
+the text and line. What the program takes has to be true by an event queue (lib/event_queue.py),
+which knows no spans: the time of a certificate that it accepts is the greatest delay of all
+admitted pairs; and up to the line that it refuses, each clause of a leaf holds in each run of the
+leaf's admitted pairs, and no net changes later than its end says. The example of
+docs/CERTIFICATE.md, with the changes that stand after it, comes first. A case is one certificate.
+The files of the first difference are kept in DIR, where `--keep DIR` names one.
 """
 
 import itertools
@@ -20,27 +21,25 @@ import re
 import sys
 
 import opinions
-from lib import check, event_queue, places, refuting
-from lib.netlists import module, random_netlist
+from lib import check, event_queue, places, refuting, tampering, truth
+from lib.netlists import random_netlist, wide_netlist
 
 import second_opinion as opinion
 from second_opinion import X
+from second_spans import STEPS, VARIABLES
 
 CASES = 3000
-# The netlist of the page's example, and what is said of it with one text in place of another.
-EXAMPLE = "module t(a, y);\ninput a;\noutput y;\nbuf #1 p(b,a); and #(1,4) g(y,a,b);\nendmodule\n"
+# What is said of the page's example, with one text in place of another.
 CHANGES = [
-    ("", "", "accepted 4"),
-    ("\nq 4\n", "\nq 3\n", "refused 3 LeafBound line 20"),
-    ("\nq 4\n", "\nq 5\n", "refused 4 LeafAboveTime line 20"),
-    (" 5 1 4\nq", " 5 1\nq", "refused 10 BadStep line 19"),
-    ("\nr\n", "\nb e 5\n", "certificate fault 1 Syntax at line 11"),
+    ("", "", "accepted 3"),
+    ("\nw 6 0 2\n", "\nw 6 0 1\n", "refused 10 BadStep line 16"),
+    (" 0 1 3\ne", " 0 1\ne", "refused 10 BadStep line 20"),
+    ("\nq 3\n", "\nq 2\n", "refused 3 LeafBound line 23"),
+    ("\nq 3\n", "\nq 4\n", "refused 4 LeafAboveTime line 23"),
+    ("\nx\n", "\nb e 8\n", "certificate fault 1 Syntax at line 11"),
 ]
-# The lines before the tree of a certificate for a netlist with one input.
-CROWDED = ["tdelay-cert 5", "circuit 1 GATES", "first .", "second .", "hold .", "flips 1", "at 0"]
-CROWDED += ["time 1", "from 0", "to 1"]
-# The most pairs that are run, and the most variables of a leaf.
-PAIRS, VARIABLES = 1024, 33_554_432
+# The most pairs that are run.
+PAIRS = 1024
 
 
 def pairs_of(question):
@@ -63,7 +62,7 @@ def worst_pair(circuit, question):
     return time, pairs[((before ^ behind) & -(before ^ behind)).bit_length() - 1]
 
 
-# ---- Trees with leaves by refutation ----
+# ---- Trees with leaves by spans ----
 
 
 def leaf_of(rng, circuit, question, cube, time):
@@ -75,7 +74,7 @@ def leaf_of(rng, circuit, question, cube, time):
         bound = time if rng.random() < 0.6 else rng.randint(0, time)
         lines = refuting.leaf_lines(rng, circuit, question, cube, bound)
         if lines is not None:
-            return ["r", *lines, f"q {rng.choice([bound, bound, rng.randint(bound, time)])}"]
+            return ["x", *lines, f"q {rng.choice([bound, bound, rng.randint(bound, time)])}"]
     if free or rng.random() < 0.5:
         letter = rng.choice("atmen")
         bound = opinion.bound(letter, circuit, cube, question.moments)
@@ -88,8 +87,8 @@ def leaf_of(rng, circuit, question, cube, time):
 
 
 def tree_lines(rng, circuit, question, time, most):
-    """The lines of a tree that shows a time, None where no leaf came to be one by refutation, or
-    where there are too many leaves.
+    """The lines of a tree that shows a time, None where no leaf came to be one by spans, or where
+    there are too many leaves.
     """
     cubes, lines, leaves = [question.pins], [], 0
     while cubes:
@@ -106,7 +105,19 @@ def tree_lines(rng, circuit, question, time, most):
         leaves += 1
         if leaves > most:
             return None
-    return lines if "r" in lines else None
+    return lines if "x" in lines else None
+
+
+def random_leaf(rng, circuit, question, time):
+    """The lines of a tree of one leaf of random steps, some of them not good."""
+    pairs = pairs_of(question)
+    waves = [
+        [[(-1, start), *changes] for start, changes in opinion.signals(opinion.RUN, circuit, *it)]
+        for it in ((pair, question.moments) for pair in rng.sample(pairs, min(4, len(pairs))))
+    ]
+    lines, bound = refuting.random_lines(rng, circuit, question, question.pins, waves)
+    least = [max(0, bound - rng.choice([0, 0, 1]))]
+    return ["x", *lines, f"q {rng.choice([*least, *least, min(bound, time)])}"]
 
 
 def head_lines(circuit, question, time, pair):
@@ -129,14 +140,18 @@ def head_lines(circuit, question, time, pair):
 # ---- Comparing ----
 
 
-def kinds_of(answer, origin):
-    """The kinds of a case, by what the program says."""
+def kinds_of(answer, origin, line, letters):
+    """The kinds of a case, by what the program says: the text of the line that it names, and the
+    letters of lines of leaves that it takes.
+    """
     out, fault, status = answer
+    taken = [f"good {letter}" for letter in letters]
     if status == 0:
-        return ["accepted", f"accepted, {origin}"]
+        return ["accepted", f"accepted, {origin}", *taken]
     verdict = re.match(r"refused \d+ (\w+)", out)
     kind = re.match(r"tdelay: certificate fault \d+ (\w+)", fault)
-    return [verdict[1] if verdict else kind[1] if kind else f"status {status}"]
+    bad = [f"bad {line[:1]}"] * ("BadStep" in out)
+    return [verdict[1] if verdict else kind[1] if kind else f"status {status}", *taken, *bad]
 
 
 def is_true(setup, certificate):
@@ -148,139 +163,126 @@ def is_true(setup, certificate):
 
 
 def compare(setup, lines, origin, wanted=None):
-    """A case: both say the same of a certificate, what is wanted where that is known, and one that
-    the program accepts is true.
+    """A case: both say the same of a certificate, what is wanted where that is known, and what the
+    program takes is true.
     """
     certificate = lines if isinstance(lines, bytes) else ("\n".join(lines) + "\n").encode()
     tested = setup.tested
     tested.write("c", certificate)
     theirs = setup.program("check", "t.v", "c")
     ours = opinion.told(lambda: opinion.check(setup.circuit, certificate))
-    wrong = None
+    at = re.match(r"refused .* line (\d+)\n", theirs[0])
+    line = int(at[1]) if at else 0
+    letters, wrong = set(), None
     if theirs != ours:
         wrong = f"{theirs}, and the second opinion {ours}"
     elif wanted and not (theirs[0] + theirs[1].removeprefix("tdelay: ")).startswith(wanted + "\n"):
         wrong = f"{theirs}, and not {wanted}"
     elif theirs[2] == 0 and not is_true(setup, certificate):
         wrong = f"{theirs}, which isn't the greatest delay"
+    elif theirs[2] == 0 or line:
+        letters, wrong = truth.of_leaves(setup.circuit, certificate, line)
     if wrong:
         opinions.keep(tested)
         tested.fault(
             f"{wrong} {setup.defaults}\n{setup.netlist.decode('latin-1')}\n"
             f"{certificate.decode('latin-1')[:1500]}"
         )
-    tested.case(*kinds_of(theirs, origin))
+    text = certificate.decode("latin-1").split("\n")[line - 1] if line else ""
+    tested.case(*kinds_of(theirs, origin, text, letters))
 
 
 def compare_example(tested):
     """Cases: the example of the page, whole and changed."""
     page = places.text_of("docs", "CERTIFICATE.md")
+    netlist = re.search(r"(?s)```\n(module .*?)```", page)[1]
     example = re.search(r"(?s)```\n(tdelay-cert 5\n.*?)```", page)[1]
-    setup = opinions.Setup(tested, random.Random(0), EXAMPLE.encode())
+    setup = opinions.Setup(tested, random.Random(0), netlist.encode())
     setup.defaults = []
     for old, new, wanted in CHANGES:
         compare(setup, example.replace(old, new, 1).encode(), "of the page", wanted)
 
 
-def crowded(variables):
-    """A netlist whose wires have this many variables; its output follows its input after 1 step.
-    Gate after gate twice as many moments come together in `x`.
-    """
-    gates, left, stages = ["buf #1 (y,a)"], variables - 11, 0
-
-    def add(gate, count):
-        nonlocal left
-        gates.append(gate)
-        left -= count
-
-    if left % 2:
-        add("not #(1,2) (o,a)", 5)
-    while left >= 6 * 2**stages + 4:
-        before = f"x{stages}" if stages else "a"
-        add(f"buf #{2**stages} (d{stages},{before})", 2 * 2**stages + 2)
-        add(f"xor #1 (x{stages + 1},{before},d{stages})", 4 * 2**stages + 2)
-        stages += 1
-    for stage in range(stages, 0, -1):
-        while left >= 2 * 2**stage + 2:
-            add(f"buf #1 (c{left},x{stage})", 2 * 2**stage + 2)
-    while left:
-        add(f"buf #1 (c{left},1'b0)", 2)
-    return module("a", "y", *gates)
-
-
-def compare_limit(tested):
-    """Cases: a leaf with as many variables as it may have, and one with one more."""
-    for variables, wanted in [
-        (VARIABLES, "accepted 1"),
-        (VARIABLES + 1, "refused 3 LeafBound line 11"),
-    ]:
-        text = crowded(variables)
-        gates = text.count("#")
-        tested.write("t.v", text)
-        tested.write("c", "\n".join([*CROWDED, "r", "q 1", ""]).replace("GATES", str(gates)))
-        done = tested.run("check", "t.v", "c", seconds=120)
-        tested.expect(
-            f"{variables} variables: {done}", True, done.out.startswith(wanted + "\n"), "the limit"
-        )
-
-
-def changed(rng, circuit, head, tree):
+def changed(rng, head, tree):
     """A changed certificate, as lines or as bytes."""
     way = rng.random()
     if way < 0.8:
-        return head + refuting.tampered(rng, circuit, tree)
+        return head + tampering.tampered(rng, tree)
     if way < 0.9:
         return opinions.by_lines(rng, head + tree)
     return opinions.by_bytes(rng, ("\n".join(head + tree) + "\n").encode())
 
 
 def lesser(rng, circuit, question, worst, tree):
-    """A certificate of a pair with a lesser delay, whose leaves say no more than that."""
+    """A certificate of a pair with a lesser delay, whose leaves say no more than that, and in which
+    now and then all that is late is sooner by as much.
+    """
     pair = rng.choice(pairs_of(question))
     time = event_queue.latest_change(circuit, [pair], question.moments)
     if time == worst:
         return None
-    leaves = [
-        re.sub(r"\d+$", lambda found: str(min(time, int(found[0]))), line)
-        if line[0] in "qbp"
-        else line
-        for line in tree
-    ]
-    return head_lines(circuit, question, time, pair) + leaves
+    by = rng.choice([0, worst - time])
+    return head_lines(circuit, question, time, pair) + tampering.sooner(rng, tree, by, time)
+
+
+def compare_written(setup, words, question, worst):
+    """Compares a certificate that `worst` writes, and changed ones, where it has such a leaf."""
+    rng = setup.rng
+    written = opinions.worst(setup, words, 10_000, "refute")
+    lines = written.decode().splitlines() if written else []
+    if "x" not in lines:
+        return
+    compare(setup, written, "of a search", f"accepted {worst}")
+    head, tree = lines[:10], lines[10:]
+    for _ in range(4):
+        compare(setup, changed(rng, head, tree), "changed")
+    less = lesser(rng, setup.circuit, question, worst, tree)
+    if less:
+        compare(setup, less, "a lesser claim")
+
+
+def compare_own(setup, question, worst, pair):
+    """Compares certificates of leaves that are made here."""
+    rng, circuit = setup.rng, setup.circuit
+    head = head_lines(circuit, question, worst, pair)
+    for _ in range(4):
+        compare(setup, head + random_leaf(rng, circuit, question, worst), "random steps")
+    tree = tree_lines(rng, circuit, question, worst, rng.choice([1, 8, 60]))
+    if not tree:
+        return
+    mixed = {line.split(" ")[0] for line in tree} & {"b", "p", "none"}
+    origin = "mixed leaves" if mixed else "spans alone"
+    compare(setup, head + tree, origin, f"accepted {worst}")
+    for _ in range(8):
+        compare(setup, changed(rng, head, tree), "changed")
+    for _ in range(2):
+        less = lesser(rng, circuit, question, worst, tree)
+        if less:
+            compare(setup, less, "a lesser claim")
 
 
 def compare_circuit(tested, rng):
     """Makes a circuit and certificates for it, and compares what is said of them."""
     kind = rng.random()
-    if kind < 0.7:
-        text, _, _ = random_netlist(rng, *((3, 12) if kind < 0.5 else (5, 25)))
+    if kind < 0.65:
+        text, _, _ = random_netlist(rng, *((3, 12) if kind < 0.45 else (5, 25)))
     else:
-        text = opinions.random_circuit(rng)
+        text = opinions.random_circuit(rng) if kind < 0.95 else wide_netlist(rng)
     setup = opinions.Setup(tested, rng, text.encode("latin-1"))
     circuit = setup.circuit
     if circuit is None or 4**circuit.inputs > PAIRS:
         return
-    inputs = circuit.inputs
     for _ in range(3):
-        question = opinions.question_of(opinions.random_question(rng, inputs), inputs)
+        words = opinions.random_question(rng, circuit.inputs)
+        question = opinions.question_of(words, circuit.inputs)
         worst = worst_pair(circuit, question)
-        tree = worst and tree_lines(rng, circuit, question, worst[0], rng.choice([1, 8, 60]))
-        if not tree:
-            continue
-        head = head_lines(circuit, question, *worst)
-        mixed = {line[0] for line in tree} & set("bpn")
-        origin = "mixed leaves" if mixed else "by refutation alone"
-        compare(setup, head + tree, origin, f"accepted {worst[0]}")
-        for _ in range(8):
-            compare(setup, changed(rng, circuit, head, tree), "changed")
-        lines = lesser(rng, circuit, question, worst[0], tree)
-        if lines:
-            compare(setup, lines, "a lesser claim")
+        if worst:
+            compare_own(setup, question, *worst)
+            compare_written(setup, words, question, worst[0])
 
 
 def work(tested):
     compare_example(tested)
-    compare_limit(tested)
     for which in itertools.count():
         compare_circuit(tested, random.Random(f"{tested.seed} {which}"))
 
@@ -289,15 +291,20 @@ def shares(tested, _cut):
     opinions.require_shares(tested, SHARES)
 
 
+# Of 100 cases at least this share is of a kind.
 SHARES = {
     "accepted": 0.1,
-    "accepted, by refutation alone": 0.02,
+    "accepted, spans alone": 0.02,
     "accepted, mixed leaves": 0.01,
     "accepted, changed": 0.02,
+    "accepted, of a search": 0.01,
+    "accepted, random steps": 0.01,
     "BadStep": 0.1,
     "LeafBound": 0.02,
     "LeafAboveTime": 0.002,
     "Syntax": 0.01,
+    **{f"good {letter}": 0.02 for letter in VARIABLES + STEPS if letter != "k"},
+    **{f"bad {letter}": 0.001 for letter in VARIABLES + STEPS},
 }
 
 if __name__ == "__main__":

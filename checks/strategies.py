@@ -5,8 +5,7 @@ Each case is a search of a random circuit of at most four inputs, some with pins
 flips and moments of inputs. Its worst delay is found by running every admitted pair in
 tools/second_opinion.py, which shares no code with the program. `worst` has to answer exactly this
 with each strategy, and with `lead` also by two workers, by an admitted pair that has the delay, and
-its certificate has to be accepted by `check`, and by the second opinion too. Where flips are
-limited, of which a refutation knows nothing, `refute` may answer with bounds. Where no pair is
+its certificate has to be accepted by `check`, and by the second opinion too. Where no pair is
 admitted the program says so.
 """
 
@@ -27,10 +26,6 @@ def fault_in(tested, circuit, words, way, wanted):
     if wanted is None:
         return None if reports.finds_no_pair(done) else f"{ended}where no pair is admitted"
     values = reports.values_of(done.out)
-    if done.status == 3 and "refute" in way and "--flips" in words:
-        figures = reports.figures_of(done.out)
-        is_right = figures is not None and figures.low <= wanted < figures.high
-        return None if is_right else f"{ended}where the worst delay is {wanted}"
     if done.status != 0 or done.err or values.get("exact") != str(wanted):
         return f"{ended}where the worst delay is {wanted}"
     pair, moments = (values["from"], values["to"]), questions.moments_of(words, circuit.inputs)

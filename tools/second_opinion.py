@@ -11,8 +11,8 @@ docs/CERTIFICATE.md, netlists.md, domains.md and program.md of docs/model, and d
 alone, in Python's standard library: it shares nothing with the project, no code,
 no proof and no toolchain. What differs: a fault of the netlist has no number and line,
 a loop without a net on it, and a bad command line in argparse's words. It is slow, since each leaf
-is bounded from nothing. Netlists are read in second_netlist.py, and leaves by refutation checked in
-second_refutation.py.
+is bounded from nothing. Netlists are read in second_netlist.py; the runs and the domains are those
+of second_domains.py, and second_spans.py has the leaves by spans.
 """
 
 import argparse
@@ -20,233 +20,15 @@ import re
 import sys
 from collections import namedtuple
 from enum import Enum
-from functools import partial
-from itertools import groupby
 
-from second_levels import CONTROLLING, NEGATED, NEGATES, X, table
+from second_domains import RUN, bound, delay_of_pair, lasts, latest_of, quickest_to, signals
+from second_levels import X
 from second_netlist import BILLION, Delays, Refusal, read_circuit
-from second_refutation import STEPS, BadStep, Refutation, TooMany
+from second_spans import STEPS, VARIABLES, BadStep, Leaf
 
 LARGEST = 10**18
 if hasattr(sys, "set_int_max_str_digits"):
     sys.set_int_max_str_digits(0)  # the numbers of a text may be of any length
-
-
-# ---- Runs (docs/CERTIFICATE.md, "The delay of a pair") ----
-
-# What gives each net a signal: functions of an input's two levels and moment, and of a gate's kind,
-# delays and inputs' signals; and that of a signal's last moment, None where it has none.
-Domain = namedtuple("Domain", "of_input of_gate last")
-
-
-def quickest_to(level, rise, fall):
-    """The delay to the level, the lesser one where that isn't known."""
-    return (fall, rise, min(rise, fall))[level]
-
-
-def wave_of_input(first, second, moment):
-    """A wave is a start and a list of changes, each a moment and a level."""
-    return first, [] if first == second else [(moment, second)]
-
-
-def over_time(function, waves):
-    """The wave of the function of the waves' levels."""
-    levels = [start for start, _ in waves]
-    changes = sorted(
-        (moment, which, level)
-        for which, (_, changes) in enumerate(waves)
-        for moment, level in changes
-    )
-    start = at = function(levels)
-    found = []
-    for moment, together in groupby(changes, lambda change: change[0]):
-        for _, which, level in together:
-            levels[which] = level
-        before, at = at, function(levels)
-        if before != at:
-            found.append((moment, at))
-    return start, found
-
-
-def run_of_gate(kind, rise, fall, waves):
-    """The wave of a gate's output, by the scheduling rule. Where the target doesn't change the rule
-    does nothing.
-    """
-    start, changes = over_time(partial(table, kind), waves)
-    level, event, found = start, None, []
-    for moment, wanted in changes:
-        if event and event[0] <= moment:
-            found.append(event)
-            level, event = event[1], None
-        if event and event[1] != wanted:
-            event = None
-        if wanted != level and not event:
-            event = moment + quickest_to(wanted, rise, fall), wanted
-    return start, found + [event] if event else found
-
-
-def signals(domain, circuit, cube, moments):
-    """The signals of the nets, by number. A cube has two levels for each input; a constant is as an
-    input that keeps its level.
-    """
-    found = [
-        *map(domain.of_input, cube[::2], cube[1::2], moments),
-        domain.of_input(0, 0, 0),
-        domain.of_input(1, 1, 0),
-    ]
-    for gate in circuit.gates:
-        found.append(
-            domain.of_gate(gate.kind, gate.rise, gate.fall, [found[net] for net in gate.inputs])
-        )
-    return found
-
-
-def lasts(domain, circuit, cube, moments):
-    """The last moments of the outputs' signals in order."""
-    found = signals(domain, circuit, cube, moments)
-    return [domain.last(found[net]) for net in circuit.outputs]
-
-
-def latest_of(moments):
-    """The latest of those that are there, 0 where there is none."""
-    return max((moment for moment in moments if moment is not None), default=0)
-
-
-RUN = Domain(wave_of_input, run_of_gate, lambda wave: wave[1][-1][0] if wave[1] else None)
-
-
-def delay_of_pair(circuit, pair, moments):
-    """The delay of a pair, a cube in which nothing is free."""
-    return latest_of(lasts(RUN, circuit, pair, moments))
-
-
-# ---- Domains (docs/CERTIFICATE.md, "The bound of a cube") ----
-
-CAP = 512
-
-# The span is a pair of moments, None for never. The ends are those of 0, of 1 and of an unknown
-# level, all of them 0 for never.
-Arrival = namedtuple("Arrival", "start finish span")
-Edges = namedtuple("Edges", "start finish earliest ends")
-
-
-def arrival_of_input(first, second, moment):
-    return Arrival(first, second, None if first == second != X else (moment, moment))
-
-
-def arrival_of_gate(kind, rise, fall, inputs):
-    start, finish = (table(kind, [signal[side] for signal in inputs]) for side in (0, 1))
-    never, controlling = Arrival(start, finish, span=None), CONTROLLING.get(kind)
-    spans = [signal.span for signal in inputs if signal.span]
-    finishing = [signal.span for signal in inputs if signal.finish == controlling]
-    if not spans or None in finishing:
-        return never
-    earliest = max(
-        [min(spans)[0]]
-        + [signal.span[0] for signal in inputs if signal.start == controlling and signal.span]
-    )
-    latest = min([max(end for _, end in spans)] + [end for _, end in finishing])
-    lost = start == finish != X and latest - earliest < quickest_to(NEGATED[start], rise, fall)
-    if earliest > latest or lost:
-        return never
-    return never._replace(
-        span=(
-            earliest + quickest_to(NEGATED[start], rise, fall),
-            latest + (fall, rise, max(rise, fall))[finish],
-        )
-    )
-
-
-def possible_of_gate(kind, rise, fall, inputs):
-    """A signal is a wave in which X is the set of both levels. Whether a level is possible is a
-    buffer of whether it is in the target.
-    """
-    target = over_time(partial(table, kind), inputs)
-    zero = run_of_gate("buf", fall, rise, [over_time(lambda levels: int(levels[0] != 1), [target])])
-    one = run_of_gate("buf", rise, fall, [over_time(lambda levels: int(levels[0] != 0), [target])])
-    start, boundaries = over_time(lambda levels: X if all(levels) else levels[1], [zero, one])
-    if len(boundaries) > CAP:
-        boundaries[CAP - 1 :] = [] if boundaries[CAP - 2][1] == X else [(boundaries[CAP - 1][0], X)]
-    return start, boundaries
-
-
-def last_of_possible(signal):
-    moment, level = ([(0, signal[0])] + signal[1])[-1]
-    return None if level == X else moment
-
-
-def edges_of_input(first, second, moment):
-    ends = [0 if first == level or second == 1 - level else moment + 1 for level in (0, 1)]
-    return Edges(first, second, moment, [*ends, max(ends)])
-
-
-def ends_of_parity(kind, inputs):
-    """The ends of 0 and 1 of the target of `xor` and `xnor`."""
-    last, *others = sorted(inputs, key=lambda signal: -signal.ends[X])
-    until = max((signal.ends[X] for signal in others), default=0)
-    parity = table(kind, [signal.finish for signal in others])
-    return [max(until, last.ends[X if parity == X else level ^ parity]) for level in (0, 1)]
-
-
-def ends_of_target(kind, inputs):
-    """The ends of 0 and 1 of the target, by rules 2 and 3."""
-    if kind in ("xor", "xnor"):
-        return ends_of_parity(kind, inputs)
-    ends = [max(signal.ends[level ^ (kind in NEGATES)] for signal in inputs) for level in (0, 1)]
-    for signal in inputs:
-        if signal.finish == CONTROLLING.get(kind):
-            settled = table(kind, [signal.finish])
-            ends[settled] = min(ends[settled], signal.ends[signal.finish])
-    return ends
-
-
-def edges_of_gate(kind, rise, fall, inputs):
-    start, finish = (table(kind, [signal[side] for signal in inputs]) for side in (0, 1))
-    changing = [signal for signal in inputs if signal.ends[X]]
-    held = [signal.earliest for signal in changing if signal.start == CONTROLLING.get(kind)]
-    earliest = max([min((signal.earliest for signal in changing), default=0)] + held)
-    ends = ends_of_target(kind, inputs)
-    if finish != X:
-        other = 1 - finish
-        ends[other] = max(0, min(ends[other], ends[finish] - (fall, rise)[other]))
-    ends = [end if end > earliest else 0 for end in ends]
-    ends.append(max(ends))
-    if not ends[finish] or not ends[NEGATED[start]]:
-        return Edges(start, finish, 0, [0, 0, 0])
-    late = [end + delay if end else 0 for end, delay in zip(ends, (fall, rise))]
-    return Edges(
-        start, finish, earliest + quickest_to(NEGATED[start], rise, fall), [*late, max(late)]
-    )
-
-
-ARRIVAL = Domain(
-    arrival_of_input, arrival_of_gate, lambda signal: signal.span[1] if signal.span else 0
-)
-POSSIBLE = Domain(wave_of_input, possible_of_gate, last_of_possible)
-EDGES = Domain(edges_of_input, edges_of_gate, lambda signal: max(0, signal.ends[X] - 1))
-DOMAINS = {
-    "a": [ARRIVAL],
-    "t": [POSSIBLE],
-    "m": [ARRIVAL, POSSIBLE],
-    "e": [EDGES],
-    "n": [EDGES, POSSIBLE],
-}
-
-
-def bounds(letter, circuit, cube, moments):
-    """The bounds of the outputs in order, None where there is none. A cube is a list of 0, 1 and X
-    for free."""
-    of_outputs = zip(*(lasts(domain, circuit, cube, moments) for domain in DOMAINS[letter]))
-    return [
-        min((last for last in of_output if last is not None), default=None)
-        for of_output in of_outputs
-    ]
-
-
-def bound(letter, circuit, cube, moments):
-    """The bound of the cube, None where there is none."""
-    least = bounds(letter, circuit, cube, moments)
-    return None if None in least else latest_of(least)
 
 
 # ---- The certificate's text (docs/CERTIFICATE.md, "The text" and "What is wrong with a text") ----
@@ -256,11 +38,11 @@ DIGITS = "0123456789"
 
 # What is asked: a cube of pins, for each input whether it is held, the flips, and the moments.
 Question = namedtuple("Question", "pins held flips moments")
-# A line of a tree; the number of a split is its position. The lines of a leaf by refutation stand
-# there one by one; the number of a step is the text of its numbers.
+# A line of a tree; the number of a split is its position. The lines of a leaf by spans stand there
+# one by one, each but its ends with the text of its numbers.
 Line = namedtuple("Line", "letter domain number")
-# A step as it mostly stands in a text, and what such a line may not have.
-STEP = re.compile(rf"[{STEPS}][0-9 ]*\n")
+# Such a line as it mostly stands in a text, and what it may not have.
+INNER = re.compile(rf"[{VARIABLES}{STEPS}][0-9 ]*\n")
 ODD = re.compile(r"\A.[0-9]|  | \n| 0[0-9]|[0-9]{19}")
 # `asked` are the lines of the question as they stand in the text, and `pair` is a cube.
 Certificate = namedtuple("Certificate", "inputs gates question asked time pair tree")
@@ -373,16 +155,16 @@ def question_in(text, version, inputs):
     )
 
 
-def steps_in(text):
-    """The lines after a line `r`, up to `q`."""
+def lines_of_leaf(text):
+    """The lines after a line `x`, up to `q`."""
     lines = []
     while True:
-        found = STEP.match(text.text, text.place)
+        found = INNER.match(text.text, text.place)
         if found and not ODD.search(found[0]):
             text.place = found.end()
             lines.append(Line(found[0][0], None, found[0][1:-1]))
             continue
-        letter = text.one_of(STEPS + "q")
+        letter = text.one_of(VARIABLES + STEPS + "q")
         if letter == "q":
             return [*lines, Line(letter, None, text.number(" ", "\n"))]
         lines.append(Line(letter, None, text.numbers()))
@@ -390,12 +172,12 @@ def steps_in(text):
 
 # The letters with which lines of a tree begin, by the version; and those with which a leaf of the
 # version's own begins, one of which there has to be, and its domains.
-LETTERS = {1: "sbp", 2: "sbpn", 3: "sbpn", 4: "sbpn", 5: "sbpnr"}
-OWN = {4: ("sb", "en"), 5: ("sr", "")}
+LETTERS = {1: "sbp", 2: "sbpn", 3: "sbpn", 4: "sbpn", 5: "sbpnx"}
+OWN = {4: ("sb", "en"), 5: ("sx", "")}
 
 
 def tree_in(text, version):
-    """The lines of the tree, where a leaf without a bound has no domain, and `none` and `r` no
+    """The lines of the tree, where a leaf without a bound has no domain, and `none` and `x` no
     number.
     """
     lines, to_come, has_own = [], 1, version not in OWN
@@ -405,13 +187,13 @@ def tree_in(text, version):
             OWN[version] if last else (LETTERS[version], "atm" if version < 4 else "atmen")
         )
         letter = text.one_of(letters)
-        text.word({"n": "one\n", "r": "\n"}.get(letter, " "))
+        text.word({"n": "one\n", "x": "\n"}.get(letter, " "))
         domain = text.one_of(domains) if letter == "b" else None
-        number = None if letter in "nr" else text.number(" " if domain else "", "\n")
+        number = None if letter in "nx" else text.number(" " if domain else "", "\n")
         lines.append(Line(letter, domain, number))
-        if letter == "r":
-            lines += steps_in(text)
-        has_own = has_own or letter == "r" or version == 4 and domain in ("e", "n")
+        if letter == "x":
+            lines += lines_of_leaf(text)
+        has_own = has_own or letter == "x" or version == 4 and domain in ("e", "n")
         to_come += 1 if letter == "s" else -1
     return lines
 
@@ -456,24 +238,14 @@ def has_admitted(question, cube):
     return all(allowed) and not any(flips) and len(flips) <= question.flips
 
 
-def leaf_of(circuit, question, cube):
-    """The leaf by refutation that begins with a cube, None where it can't."""
-    try:
-        return Refutation(circuit, cube, question.held, question.moments)
-    except TooMany:
-        return None
-
-
-def judge_refuting(leaf, time, line):
-    """What is wrong with a line of a leaf by refutation, None where nothing is."""
+def judge_in_leaf(leaf, time, line):
+    """What is wrong with a line of a leaf by spans, None where nothing is."""
     letter, _, number = line
-    if letter == "r":
-        return None if leaf else Verdict.LeafBound
     if letter == "q":
         late = Verdict.LeafAboveTime if number > time else None
-        return Verdict.LeafBound if leaf.bound() > number else late
+        return late if leaf.is_within(number) else Verdict.LeafBound
     try:
-        return leaf.step(letter, [int(word) for word in number.split()])
+        return leaf.line(letter, [int(word) for word in number.split()])
     except BadStep:
         return Verdict.BadStep
 
@@ -481,6 +253,8 @@ def judge_refuting(leaf, time, line):
 def judge_line(circuit, question, time, cube, line):
     """What is wrong with another line of the tree, None where nothing is."""
     letter, domain, number = line
+    if letter == "x":
+        return None
     if letter == "s":
         return None if number < len(cube) and cube[number] == X else Verdict.BadPosition
     if letter == "n":
@@ -506,14 +280,13 @@ def verdict(circuit, certificate):
         return Verdict.PairTime, None
     cubes, leaf = [question.pins], None
     for number, line in enumerate(certificate.tree, 6 + certificate.asked.count("\n")):
-        if line.letter in STEPS + "q":
-            wrong = judge_refuting(leaf, time, line)
-        elif line.letter == "r":
-            leaf = leaf_of(circuit, question, cubes.pop())
-            wrong = judge_refuting(leaf, time, line)
+        if leaf:
+            wrong = judge_in_leaf(leaf, time, line)
+            leaf = None if line.letter == "q" else leaf
         else:
             cube = cubes.pop()
             wrong = judge_line(circuit, question, time, cube, line)
+            leaf = Leaf(circuit, question, cube) if line.letter == "x" else None
         if wrong:
             return wrong, number
         if line.letter == "s":

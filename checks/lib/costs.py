@@ -1,5 +1,5 @@
 """Tables of what is no search alone: whole commands on long texts, the first command, a search in
-parts, and certificates by refutation.
+parts, and certificates with leaves by spans.
 """
 
 import os
@@ -113,7 +113,7 @@ def parts(table):
 
 
 def refutations(table):
-    """Certificates by refutation: their bytes, and what `check` takes."""
+    """Certificates of `refute`: their bytes, and what `check` takes."""
     program, words = table.asked.programs[0], words_of("refute", table.asked.budget)
     paths = {name: table.path(name) for name in REFUTED}
     paths = {name: path for name, path in paths.items() if path}

@@ -1,9 +1,8 @@
-"""The table of hostile certificates: leaves by refutation that are as long, as wide or as wrong as
-a text allows, and what `check` takes to accept or refuse them.
+"""The table of hostile certificates: leaves by spans that are as long, as wide or as wrong as one
+text allows, and what `check` takes to accept or refuse them.
 """
 
 import os
-import shutil
 from collections import namedtuple
 
 from . import measuring, netlists
@@ -21,30 +20,16 @@ time 1
 from 0
 to 1
 """
+# The net of `a` is 2, that of `y` 3.
 SMALL = ["buf #1 (y,a)"]
-# A gate whose target has twice as many moments as each stage before, and its own delay over them.
-STAGES = 13
-# The greatest number of a certificate.
-MOST = 10**18
-# The memory that a certificate gets whose clauses would take all there is.
-BYTES = 1_500_000_000
+# One more gate, of net 4, with as many terminals as one may have.
+WIDE = [*SMALL, f"and #1 (w{',a' * 1023})"]
+# The greatest number of a certificate, and the most literals of a gate's clause.
+MOST, LITERALS = 10**18, 4096
 
-# A certificate: its gates, pieces of the text of its steps, how `check` ends, and in which memory.
-Case = namedtuple("Case", "gates steps status answer memory", defaults=[None])
+# A certificate: its gates, pieces of the text of its leaf, and how `check` ends.
+Case = namedtuple("Case", "gates lines status answer")
 
-
-def wide_gates():
-    """Gates after which one, the last, has a target with 2^STAGES moments or so."""
-    gates, before = list(SMALL), "a"
-    for stage in range(STAGES):
-        gates.append(f"buf #{2**stage} (d{stage},{before})")
-        gates.append(f"xor #1 (x{stage + 1},{before},d{stage})")
-        before = f"x{stage + 1}"
-    return [*gates, f"buf #{2**STAGES} (w,{before})"]
-
-
-WIDE = wide_gates()
-LAST = len(WIDE) - 1
 ACCEPTED = 0, "accepted 1"
 
 
@@ -52,28 +37,50 @@ def refused(line):
     return 4, f"refused 10 BadStep line {line}"
 
 
+def long_clause(literals):
+    """The variables of a gate's clause of some literals, each but the first a span of its own, and
+    the line of the clause.
+    """
+    spans = "".join(f"w 2 1 {place} {place}\n" for place in range(1, literals))
+    body = "".join(f" {2 * which + 1}" for which in range(1, literals))
+    return f"w 3 1 2 {literals}\n{spans}", f"g 0{body}\n"
+
+
+LONG, CLAUSE = long_clause(LITERALS)
+LONGER, TOO_LONG = long_clause(LITERALS + 1)
 # Each text is given as pieces and how often each of them stands there.
 CASES = {
-    "ten million clauses": Case(SMALL, [("k 0\n", 10_000_000)], *ACCEPTED),
-    "as many clauses as a text has room for": Case(SMALL, [("k 0\n", 67_000_000)], *ACCEPTED),
-    "ten million sets taken again": Case(SMALL, [("g 0\n", 10_000_000)], *ACCEPTED),
-    "a wide gate's sets taken again": Case(WIDE, [(f"g {LAST}\n", 20_000)], *ACCEPTED),
+    "ten million variables": Case(SMALL, [("f 2\n", 10_000_000)], *ACCEPTED),
+    "as many variables as a text has room for": Case(SMALL, [("f 2\n", 67_000_000)], *ACCEPTED),
+    "as many clauses as a text has room for": Case(
+        SMALL, [("f 2\n", 1), ("u 0 1\n", 44_000_000)], *ACCEPTED
+    ),
+    "ten million ends taken again": Case(SMALL, [("r 3\n", 10_000_000)], *ACCEPTED),
+    "a wide gate's ends taken again": Case(WIDE, [("r 4\n", 100_000)], *ACCEPTED),
+    "a gate's clauses of 4,096 literals": Case(SMALL, [(LONG, 1), (CLAUSE, 1_000)], *ACCEPTED),
+    "one of 4,097 literals": Case(SMALL, [(LONGER + TOO_LONG, 1)], *refused(12 + LITERALS + 1)),
+    "a lemma of a hundred million literals": Case(
+        SMALL, [("f 2\nu 0 1\nl 100000001 1", 1), (" 0", 100_000_001), ("\n", 1)], *ACCEPTED
+    ),
     "a line of a hundred million hints": Case(
-        SMALL, [("k 0\nl 0", 1), (" 1", 100_000_000), ("\n", 1)], *refused(13)
+        SMALL, [("f 2\nu 0 1\nl 1 0", 1), (" 0", 100_000_000), ("\n", 1)], *refused(14)
     ),
     "a number of a hundred million digits": Case(
         SMALL, [("l ", 1), ("9", 100_000_000), ("\n", 1)], 1,
         "tdelay: certificate fault 4 NumberTooLarge at line 12",
     ),
-    "a lemma that shows itself": Case(SMALL, [("l 1 8 0 1\n", 1)], *refused(12)),
-    "lemmas that show each other": Case(SMALL, [("l 1 8 0 2\nl 1 9 0 1\n", 1)], *refused(12)),
-    "a literal of no variable": Case(SMALL, [(f"l 1 8 {MOST}\n", 1)], *refused(12)),
-    "a literal of no net": Case(SMALL, [(f"l 1 {MOST} 0\n", 1)], *refused(12)),
-    "more literals than numbers": Case(SMALL, [(f"l {MOST} 8 0\n", 1)], *refused(12)),
-    "a window as late as a number": Case(SMALL, [(f"w 0 {MOST} 1\n", 1)], *ACCEPTED),
-    "clauses of eight thousand literals": Case(
-        WIDE, [(f"w {LAST} {2**STAGES} 1\n", 100_000)], 5, "tdelay: out of memory", BYTES
+    "a lemma that shows itself": Case(SMALL, [("f 2\nl 1 0 0\n", 1)], *refused(13)),
+    "lemmas that show each other": Case(SMALL, [("f 2\nl 1 0 1\nl 1 1 0\n", 1)], *refused(13)),
+    "a literal of no variable": Case(SMALL, [(f"l 1 {MOST} 0\n", 1)], *refused(12)),
+    "a variable of no net": Case(SMALL, [(f"f {MOST}\n", 1)], *refused(12)),
+    "more literals than numbers": Case(SMALL, [(f"l {MOST} 0 0\n", 1)], *refused(12)),
+    "a span as late as a number": Case(
+        SMALL, [(f"w 3 1 {MOST}\nw 2 1 1\ng 0 3\n", 1)], *ACCEPTED
     ),
+    "a span after all numbers": Case(
+        SMALL, [(f"w 3 1 {MOST}\nw 2 1 {MOST}\ng 0 3\n", 1)], *refused(14)
+    ),
+    "more flips than inputs": Case(SMALL, [(f"c 1 {MOST}\nu 1\n", 1)], *ACCEPTED),
 }
 
 
@@ -83,8 +90,8 @@ def write(table, case):
     with open(netlist, "w", encoding="utf-8") as file:
         file.write(netlists.module("a", "y", *case.gates))
     with open(certificate, "w", encoding="utf-8") as file:
-        file.write(HEAD.format(gates=len(case.gates)) + "r\n")
-        for piece, count in case.steps:
+        file.write(HEAD.format(gates=len(case.gates)) + "x\n")
+        for piece, count in case.lines:
             file.write(piece * count)
         file.write("q 1\n")
     return netlist, certificate
@@ -92,17 +99,13 @@ def write(table, case):
 
 def hostile(table):
     """Hostile certificates, and what `check` takes for them."""
-    table.head("Steps", "MB", "Answer", "Seconds", "Memory, MB")
+    table.head("Lines", "MB", "Answer", "Seconds", "Memory, MB")
     for name, case in CASES.items():
         if not table.is_asked(name):
             continue
-        limit = [] if case.memory is None else ["prlimit", f"--as={case.memory}"]
-        if limit and not shutil.which("prlimit"):
-            table.lacking.append(name)
-            continue
         netlist, certificate = write(table, case)
         size = os.path.getsize(certificate)
-        command = [*limit, table.asked.programs[0], "check", netlist, certificate]
+        command = [table.asked.programs[0], "check", netlist, certificate]
         run = measuring.measured(command, table.asked.seconds)
         lines = [*run.report.splitlines(), *run.said.splitlines()]
         answer = case.answer

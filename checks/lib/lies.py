@@ -70,11 +70,6 @@ LIES = {
         "a bound by edges that is one more": where("--edges", MORE.format(key="e", by=1)),
         "refused certificates are accepted, too": where("check", ACCEPTS),
     },
-    "other_solvers": {
-        "refused certificates are accepted, too": where("check", ACCEPTS),
-        "the time of a model's pair is one more": where("sim", MORE.format(key="time", by=1)),
-        "a time that is one less": where("worst", MORE.format(key="exact", by=-1)),
-    },
     "pages": {"the time is one more": MORE.format(key="time", by=1)},
     "parts": {
         "a part is left out": where("parts", edited("$d")),

@@ -67,6 +67,19 @@ def random_netlist(rng, most_inputs=4, most_gates=12):
     )
 
 
+def wide_netlist(rng):
+    """The text of a netlist of four inputs with a wide gate."""
+    kind, count = rng.choice(["xor", "xnor", "and", "nor"]), rng.randint(9, 14)
+    inputs = [f"i{k}" for k in range(4)]
+    gates = []
+    for k in range(count):
+        delay = f"#({rng.randint(1, 4)},{rng.randint(1, 4)})"
+        two = rng.choice(["and", "or", "nand", "xor"])
+        gates.append(f"{two} {delay} (n{k},{rng.choice(inputs)},{rng.choice(inputs)})")
+    gates.append(f"{kind} #(2,3) (y,{','.join(f'n{k}' for k in range(count))})")
+    return module(",".join(inputs), "y", *gates)
+
+
 def layered(gates, inputs, layer, seed=1):
     """The text of a netlist in layers, each gate with two random inputs from the layer before; the
     last layer is the output.

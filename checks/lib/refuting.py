@@ -1,399 +1,403 @@
-"""Leaves by refutation for small circuits: `leaf_lines` writes one that is good, and `tampered`
-changes a few of its lines.
+"""Leaves by spans for small circuits: `leaf_lines` writes one that is good, and `random_lines` one
+of random steps (docs/CERTIFICATE.md, "Leaves by spans").
 
-A change of a net is shown impossible by a tree over the inputs' bits. Where all bits are known the
-clauses that can be named lead to a contradiction, and mostly long before that; each half of the
-tree gives a lemma, and two halves give one without the bit that parts them. Whether a step is good
-is left to the leaf of the second opinion, which does each as it is written: one that isn't is an
-error here. docs/CERTIFICATE.md, "Refutations", has the steps.
+That an output is at rest is shown by a tree over the inputs' bits. Where some bits are known, nets
+surely are at a level at some places, gate after gate; where that is enough, the steps on the way to
+it are written, and a lemma of the bits that they rest on; two halves of the tree give a lemma
+without the bit that parts them. Whether a step is good is left to the leaf of the second opinion,
+which takes each as it is written: one that isn't is an error here.
 """
 
-from bisect import bisect_right
+from collections import namedtuple
 
 from second_levels import X
-from second_refutation import STEPS, Refutation
+from second_spans import EVER, BadStep, Leaf, Span, is_sure, sure_spans
+
+# What is known of a net: a span, the true literal that says it, and the facts that give it. Where
+# it is a span of a gate's output, the literal is written when it is needed; where a bit of an input
+# says it, `of` is None, or the letter `u` where the leaf's cube has the bit.
+Fact = namedtuple("Fact", "span literal of")
+# How a net is to be shown at rest: the literals of which one holds; the net, and at which levels it
+# may be from which place on; and the literal that its last level is another one, if any.
+Goal = namedtuple("Goal", "literals net levels place last")
 
 
 class TooLong(Exception):
     """A proof needs more branches than it may have."""
 
 
-class Leaf:
+class Written:
     """A leaf that is written: its lines, and the state that they lead to."""
 
     def __init__(self, circuit, question, cube, rng):
-        self.rng, self.circuit, self.cube = rng, circuit, cube
-        self.state = Refutation(circuit, cube, question.held, question.moments)
-        self.lines, self.places = [], {}
-        # The first variable of each wire, and the first number of a literal that says that it is 1.
-        self.wires = []
-        for number, net in enumerate(self.state.nets):
-            for name, wires in ((0, self.state.levels), (2, self.state.targets)):
-                self.wires.append((wires[net].start, 4 * number + name))
-        self.wires.sort()
+        self.rng, self.circuit = rng, circuit
+        self.state = Leaf(circuit, question, cube)
+        self.numbers = {net: number for number, net in enumerate(self.state.nets)}
+        self.variables, self.steps, self.clauses = [], [], {}
 
-    def add(self, letter, numbers):
-        """Writes a step that is good."""
-        self.state.step(letter, numbers)
-        self.lines.append(" ".join([letter, *map(str, numbers)]))
+    def lines(self):
+        return [" ".join(map(str, line)) for line in self.variables + self.steps]
 
-    def clause(self, letter, numbers):
-        """The number of a named clause, which is written where it isn't there."""
-        key = letter, *numbers, frozenset(self.state.clause(letter, numbers))
-        if key not in self.places:
-            self.add(letter, numbers)
-            self.places[key] = len(self.state.clauses) - 1
-        return self.places[key]
+    def variable(self, letter, *numbers):
+        """The literal that a variable is true, which is added where it isn't there."""
+        line = letter, *numbers
+        if line not in self.variables:
+            self.state.has_steps = False
+            self.state.line(letter, list(numbers))
+            self.variables.append(line)
+        return 2 * self.variables.index(line)
 
-    def hints(self, clauses):
-        """The hints that name these clauses, now and then one of them twice."""
-        found = []
-        for clause in clauses:
-            found += [len(self.state.clauses) - clause] * (1 + (self.rng.random() < 0.02))
-        return found
+    def span(self, span):
+        """The literal of a span."""
+        last = [] if span.last == EVER else [span.last]
+        return self.variable("w", self.numbers[span.net], span.level, span.first, *last)
 
-    def literal(self, literal):
-        """The two numbers of a literal."""
-        variable, positive = divmod(literal, 2)
-        start, name = self.wires[bisect_right(self.wires, (variable, float("inf"))) - 1]
-        return [name + 1 - positive, variable - start]
+    def at(self, letter, net, level):
+        """The literal that the first or the last level of a net is this."""
+        return self.variable(letter, self.numbers[net]) + 1 - level
 
-    def lemma(self, literals, clauses):
-        """Writes a lemma, and gives its number."""
-        names = [number for literal in literals for number in self.literal(literal)]
-        self.add("l", [len(literals), *names, *self.hints(clauses)])
+    def add(self, letter, *numbers):
+        """Writes a step that is good. Gives the number of its clause, if it adds one."""
+        self.state.line(letter, list(numbers))
+        self.steps.append((letter, *numbers))
         return len(self.state.clauses) - 1
 
+    def clause(self, letter, *literals):
+        """The number of a clause, which is written where it isn't there."""
+        key = letter, *literals
+        if key not in self.clauses:
+            self.clauses[key] = self.add(letter, *literals)
+        return self.clauses[key]
 
-# ---- The clauses that can be named about a net ----
-
-
-def minimal_trits(kind, count):
-    """The levels of inputs, some of them unknown, that settle a table and no fewer do."""
-    if kind in ("and", "nand", "or", "nor"):
-        controlling = int(kind in ("or", "nor"))
-        for which in range(count):
-            yield [controlling if place == which else X for place in range(count)]
-        yield [1 - controlling] * count
-    else:
-        for bits in range(1 << count):
-            yield [bits >> which & 1 for which in range(count)]
+    def lemma(self, literals, hints):
+        return self.add("l", len(literals), *literals, *hints)
 
 
-def cone(circuit, net):
-    """The nets that a net depends on."""
+def in_cone(circuit, net):
+    """The nets that a net depends on, each after those that it reads."""
     first, found, open_ = circuit.inputs + 2, set(), [net]
     while open_:
         net = open_.pop()
         if net not in found:
             found.add(net)
             open_ += circuit.gates[net - first].inputs if net >= first else []
-    return found
-
-
-def places_of(wire, last):
-    """A place for each variable of a wire that a literal may still name, up to a moment."""
-    return [0] + [moment + 1 for moment, _ in wire.items() if moment <= last]
-
-
-def gate_names(leaf, number, last):
-    """The clauses of a gate about moments up to one."""
-    gate, target, output = leaf.state.gate_of(number)
-    for place in places_of(target, last):
-        for trits in minimal_trits(gate.kind, len(gate.inputs)):
-            yield "t", [number, place, *trits]
-    for place in places_of(output, last):
-        moment = max(0, place - 1)
-        for level, delay in ((0, gate.fall), (1, gate.rise)):
-            yield "w", [number, moment, level]
-            if place:
-                inside = [at for at, _ in target.items() if moment - delay < at < moment]
-                for before in [moment - delay, *inside]:
-                    yield "h", [number, moment, level, moment - before]
-
-
-def names(leaf, net, last):
-    """All clauses that a proof about a net may need, as letters and numbers. Those by order aren't
-    needed, but make it shorter.
-    """
-    numbers = {net: number for number, net in enumerate(leaf.state.nets)}
-    for each in sorted(cone(leaf.circuit, net)):
-        number = numbers[each]
-        if number < 2:
-            yield "k", [number]
-        elif number < 2 + leaf.circuit.inputs:
-            for position in (2 * number - 4, 2 * number - 3):
-                if leaf.cube[position] != X:
-                    yield "u", [position]
-        else:
-            yield from gate_names(leaf, number - 2 - leaf.circuit.inputs, last)
-        for moment, mask in leaf.state.levels[each].items():
-            if mask != 3 and moment <= last and leaf.rng.random() < 0.7:
-                yield "o", [number, mask >> 1, moment, moment + 1]
-
-
-# ---- Proofs ----
+    return sorted(found)
 
 
 class Proof:
-    """What follows from some literals and from the clauses that can be named about a net."""
+    """That a net is at rest, as a tree over the bits of the inputs."""
 
-    def __init__(self, leaf, net, last, branches):
-        self.leaf, self.branches = leaf, branches
-        self.clauses, self.names, self.watching = [], [], {}
-        for letter, numbers in names(leaf, net, last):
-            self.clauses.append(frozenset(leaf.state.clause(letter, numbers)))
-            self.names.append((letter, numbers))
-        for number, clause in enumerate(self.clauses):
-            for literal in clause:
-                self.watching.setdefault(literal, []).append(number)
-        # The literals that hold, in order, each with the clause that it follows from.
-        self.true, self.trail = set(), []
-        inputs = [each for each in sorted(cone(leaf.circuit, net)) if each < leaf.circuit.inputs]
-        wires = [leaf.state.levels[each] for each in inputs]
-        self.bits = [wire.start + number for wire in wires for number in range(wire.variables())]
-        leaf.rng.shuffle(self.bits)
+    def __init__(self, leaf, goal, branches):
+        self.leaf, self.goal, self.branches = leaf, goal, branches
+        self.nets = in_cone(leaf.circuit, goal.net)
+        inputs = [net for net in self.nets if net < leaf.circuit.inputs]
+        cube = leaf.state.cube
+        # The literals of the facts that are written for the goal, by their spans.
+        self.written = {}
+        self.open = [
+            (letter, net)
+            for net in inputs
+            for side, letter in enumerate("if")
+            if cube[2 * net + side] == X
+        ]
+        leaf.rng.shuffle(self.open)
 
-    def look_at(self, number):
-        """The clause's number where no literal of it can hold; else None, and what follows."""
-        left = [literal for literal in self.clauses[number] if literal ^ 1 not in self.true]
-        if not left:
-            return number
-        if len(left) == 1 and left[0] not in self.true:
-            self.true.add(left[0])
-            self.trail.append((left[0], number))
+    # ---- What is known where some bits are ----
+
+    def facts(self, bits):
+        """The facts of each net. `bits` has the levels of positions that aren't those of the cube.
+        """
+        circuit, found = self.leaf.circuit, {}
+        for net in self.nets:
+            if net < circuit.inputs:
+                found[net] = list(self.facts_of_input(net, bits))
+            elif net >= circuit.inputs + 2:
+                gate = circuit.gates[net - circuit.inputs - 2]
+                known = [fact for each in dict.fromkeys(gate.inputs) for fact in found[each]]
+                found[net] = [
+                    Fact(Span(net, level, first, last), None, known)
+                    for level in (0, 1)
+                    for first, last in self.sure(gate, level, known)
+                ]
+            else:
+                found[net] = []
+        return found
+
+    def sure(self, gate, level, known):
+        spans = sure_spans(self.leaf.circuit, gate, level, [fact.span for fact in known])
+        return {first: (first, last) for first, last in spans}.values()
+
+    def facts_of_input(self, net, bits):
+        for side, letter in enumerate("if"):
+            level = self.leaf.state.cube[2 * net + side]
+            of = "u" if level != X else None
+            level = bits.get((letter, net), level)
+            if level != X:
+                literal = self.leaf.at(letter, net, level)
+                yield Fact(self.leaf.state.says(literal), literal, of)
+
+    # ---- Writing what is needed ----
+
+    def write(self, fact, hints, used):
+        """Writes the steps that give a fact, adds their clauses to the hints, and the literals of
+        bits that they rest on to those that are used. Gives the fact's literal.
+        """
+        if fact.of is None:
+            used.append(fact.literal)
+        elif fact.of == "u":
+            hints.append(self.leaf.clause("u", fact.literal))
+        if fact.literal is not None:
+            return fact.literal
+        if fact.span in self.written:
+            return self.written[fact.span]
+        body = list(fact.of)
+        for each in self.leaf.rng.sample(body, len(body)):
+            fewer = [other for other in body if other is not each]
+            if is_sure(self.leaf.circuit, fact.span, [other.span for other in fewer]):
+                body = fewer
+        head = self.written[fact.span] = self.leaf.span(fact.span)
+        said = [self.write(each, hints, used) ^ 1 for each in body]
+        hints.append(self.leaf.clause("g", head, *said))
+        return head
+
+    def reached(self, facts):
+        """The hints by which the facts reach the goal and the bits that are used, or None."""
+        hints, used, goal, self.written = [], [], self.goal, {}
+        for fact in facts[goal.net]:
+            span = fact.span
+            if span.last == EVER and span.level in goal.levels and span.first <= goal.place:
+                wanted = self.leaf.span(Span(goal.net, span.level, goal.place, EVER))
+                if fact.of not in (None, "u") and self.leaf.rng.random() < 0.5:
+                    fact = fact._replace(span=span._replace(first=goal.place))
+                said = self.write(fact, hints, used)
+                if said != wanted:
+                    hints.append(self.leaf.clause("n", said ^ 1, wanted))
+                return hints, used
+            if span.last == EVER and goal.last is not None and span.level not in goal.levels:
+                said = self.write(fact, hints, used)
+                if said != goal.last:
+                    hints.append(self.leaf.clause("n", said ^ 1, goal.last))
+                return hints, used
         return None
 
-    def follow(self, begin):
-        """All that follows from the trail's literals from a place on. A clause that is false, or
-        None.
+    def excluded(self, bits):
+        """What shows that no admitted pair has these bits, or None."""
+        literals = [self.leaf.at(letter, net, level) ^ 1 for (letter, net), level in bits.items()]
+        try:
+            self.leaf.state.by_pairs(*literals)
+        except BadStep:
+            return None
+        for each in self.leaf.rng.sample(literals, len(literals)):
+            fewer = [literal for literal in literals if literal != each]
+            try:
+                self.leaf.state.by_pairs(*fewer)
+                literals = fewer
+            except BadStep:
+                pass
+        return [self.leaf.clause("u", *literals)], [literal ^ 1 for literal in literals]
+
+    def shown(self, bits):
+        """The hints that show the goal where these bits are known, and the literals of bits that
+        they use; None where nothing does.
         """
-        while begin < len(self.trail):
-            for number in self.watching.get(self.trail[begin][0] ^ 1, ()):
-                if self.look_at(number) is not None:
-                    return number
-            begin += 1
-        return None
-
-    def assume(self, literals):
-        """Takes literals to hold. Gives a clause that is then false, or None."""
-        begin = len(self.trail)
-        reasons = dict(self.trail)
-        for literal in literals:
-            if literal not in self.true:
-                self.true.add(literal)
-                self.trail.append((literal, None))
-            if literal ^ 1 in self.true:
-                return reasons[literal ^ 1]
-        return self.follow(begin)
-
-    def units(self):
-        """What the clauses of one literal say."""
-        for number, clause in enumerate(self.clauses):
-            if len(clause) == 1 and self.look_at(number) is not None:
-                return number
-        return self.follow(0)
-
-    def drop(self, count):
-        while len(self.trail) > count:
-            self.true.discard(self.trail.pop()[0])
-
-    def why(self, false):
-        """The clauses by which one is false, in order, and the assumptions that they rest on."""
-        needed, found, assumed = set(self.clauses[false]), [false], []
-        for literal, reason in reversed(self.trail):
-            if literal ^ 1 in needed:
-                if reason is None:
-                    assumed.append(literal)
-                else:
-                    found.append(reason)
-                    needed |= self.clauses[reason] - {literal}
-        return [self.leaf.clause(*self.names[number]) for number in reversed(found)], assumed
-
-    def shown(self, false):
-        """The clauses, by the numbers of the leaf, that lead to a contradiction with the trail's
-        assumptions, and which of these they need; None where none do.
-        """
-        if false is not None:
-            return self.why(false)
+        found = self.excluded(bits) or self.reached(self.facts(bits))
+        if found:
+            return found
         self.branches -= 1
         if self.branches < 0:
             raise TooLong
-        open_ = [bit for bit in self.bits if not {2 * bit, 2 * bit + 1} & self.true]
-        if not open_:
+        left = [position for position in self.open if position not in bits]
+        if not left:
             return None
-        halves, count = [], len(self.trail)
-        for literal in self.leaf.rng.sample([2 * open_[0], 2 * open_[0] + 1], 2):
-            half = self.shown(self.assume([literal]))
-            self.drop(count)
+        lemmas, needed = [], []
+        for level in self.leaf.rng.sample([0, 1], 2):
+            half = self.shown({**bits, left[0]: level})
+            literal = self.leaf.at(*left[0], level)
             if half is None or literal not in half[1]:
                 return half
-            halves.append((literal, half[1], self.lemma_of(half)))
-        needed = [
-            assumed
-            for literal, of_half, _ in halves
-            for assumed in of_half
-            if assumed != literal
-        ]
-        return [lemma for _, _, lemma in halves], list(dict.fromkeys(needed))
+            needed += [each for each in half[1] if each != literal]
+            lemmas.append(self.lemma(*half))
+        return lemmas, needed
 
-    def lemma_of(self, half):
-        clauses, assumed = half
-        return self.leaf.lemma([literal ^ 1 for literal in assumed], clauses)
+    def lemma(self, hints, used):
+        """Writes the lemma of the goal and of the bits that are used."""
+        denied = [literal ^ 1 for literal in dict.fromkeys(used)]
+        return self.leaf.lemma([*self.goal.literals, *denied], hints)
 
 
-def cut(leaf, net, moment, level, branches):
-    """Takes a change out of a net's set where a proof is found. Whether it is out; TooLong where
-    there isn't one of few enough branches.
+def goals_of(leaf, net, place):
+    """How a net is shown at rest from a place on: once for both levels, or level by level."""
+    spans = [leaf.span(Span(net, level, place, EVER)) for level in (0, 1)]
+    if leaf.rng.random() < 0.5:
+        return [Goal(spans, net, (0, 1), place, None)]
+    lasts = [leaf.at("f", net, 1 - level) for level in (0, 1)]
+    return [Goal([spans[it], lasts[it]], net, (it,), place, lasts[it]) for it in (0, 1)]
+
+
+def rest(leaf, net, place, branches):
+    """Writes that a net is at rest from a place on. Whether it is; TooLong where no proof of few
+    enough branches is found.
     """
-    wire = leaf.state.levels[net]
-    proof = Proof(leaf, net, moment, branches)
-    false = proof.units()
-    # Before it the net isn't at the level, and after it is.
-    literals = [wire.literal(moment, 1 - level), wire.literal(moment + 1, level)]
-    found = proof.shown(proof.assume(literals) if false is None else false)
-    if found is None:
-        return False
-    number = leaf.state.nets.index(net)
-    leaf.add("c", [number, moment, level, *leaf.hints(found[0])])
-    return True
-
-
-def cut_above(leaf, net, bound, branches):
-    """Takes all changes of a net above a moment out, the latest first. Whether all are out."""
-    for moment, mask in reversed(leaf.state.levels[net].items()):
-        for level in (0, 1):
-            if moment > bound and mask >> level & 1 and not cut(leaf, net, moment, level, branches):
-                return False
+    for goal in goals_of(leaf, net, place):
+        if all(leaf.state.ends[net][level] <= place for level in goal.levels):
+            continue
+        found = Proof(leaf, goal, branches).shown({})
+        if found is None:
+            return False
+        hints = found[0]
+        if leaf.rng.random() < 0.3:
+            hints = [leaf.lemma(goal.literals, hints)]
+        for level in goal.levels:
+            words = leaf.numbers[net], level, place, len(goal.literals), *goal.literals
+            leaf.add("e", *words, *hints)
     return True
 
 
 def sweep(leaf, branches, tries):
-    """Makes each gate's sets anew, and takes some of its changes out, from the inputs on."""
+    """Lowers ends of some gates' outputs, from the inputs on."""
     for net in range(leaf.circuit.inputs + 2, len(leaf.circuit.nets)):
-        if leaf.rng.random() < 0.8:
-            leaf.add("g", [leaf.circuit.written.index(net)])
-        changes = [
-            (moment, level)
-            for moment, mask in reversed(leaf.state.levels[net].items())
-            for level in (0, 1)
-            if mask >> level & 1 and leaf.rng.random() < 0.2
-        ]
-        for moment, level in changes[:tries]:
+        if leaf.rng.random() < 0.5:
+            leaf.add("r", leaf.numbers[net])
+        end = max(leaf.state.ends[net])
+        if end and tries and leaf.rng.random() < 0.4:
             tries -= 1
             try:
-                cut(leaf, net, moment, level, branches)
+                rest(leaf, net, max(0, end - leaf.rng.choice([1, 1, 2, 5])), branches)
             except TooLong:
                 pass
 
 
-def chatter(leaf):
-    """A step or two that are good, and of no use."""
-    rng, state = leaf.rng, leaf.state
-    for _ in range(rng.choice([0, 0, 1, 3])):
-        moment = rng.choice([0, 1, 5, rng.randint(0, 60), 10**18 - 1])
-        if leaf.circuit.gates and rng.random() < 0.7:
-            number = rng.randrange(len(leaf.circuit.gates))
-            leaf.add(*rng.choice([("w", [number, moment, rng.randint(0, 1)]), ("g", [number])]))
-        if state.clauses and rng.random() < 0.5:
-            clause = rng.randrange(len(state.clauses))
-            more = [2 * rng.randrange(state.variables) + 1] * rng.randint(0, 1)
-            leaf.lemma([*state.clauses[clause], *more], [clause])
-
-
-def leaf_lines(rng, circuit, question, cube, bound, branches=200):
-    """The lines of a leaf by refutation that is good, without `r` and `q`: after them no output
-    changes later than the bound. None where some pair of the cube with equal bits at held inputs
-    does, or where no proof of few enough branches is found.
+def leaf_lines(rng, circuit, question, cube, bound, branches=60):
+    """The lines of a leaf by spans that is good, without `x` and `q`: after them no output changes
+    later than the bound. None where some pair of the cube does, or where no proof of few enough
+    branches is found.
     """
-    leaf = Leaf(circuit, question, cube, rng)
+    leaf = Written(circuit, question, cube, rng)
     try:
         if rng.random() < 0.4:
-            chatter(leaf)
+            chatter(leaf, rng.choice([1, 10, 40]), [])
         if rng.random() < 0.4:
-            sweep(leaf, 20, 8)
+            sweep(leaf, 10, 3)
         for net in dict.fromkeys(circuit.outputs):
-            if not cut_above(leaf, net, bound, branches):
+            if max(leaf.state.ends[net]) > bound + 1 and not rest(leaf, net, bound + 1, branches):
                 return None
         if rng.random() < 0.4:
-            chatter(leaf)
+            chatter(leaf, rng.choice([1, 10]), [])
     except TooLong:
         return None
-    return leaf.lines
+    return leaf.lines()
 
 
-# ---- Changed lines ----
+# ---- Random steps ----
 
 
-def changed_words(rng, words):
-    """A step with one number off, two exchanged, one left out, one more, or another letter."""
-    words = list(words)
-    way, places = rng.random(), range(1, len(words))
-    if way < 0.15:
-        words[0] = rng.choice(STEPS)
-    elif way < 0.25 or not places:
-        words.insert(rng.randrange(len(words)) + 1, str(rng.choice([0, 1, 2, rng.randint(0, 40)])))
-    elif way < 0.35:
-        del words[rng.choice(places)]
-    elif way < 0.5:
-        one, other = rng.choice(places), rng.choice(places)
-        words[one], words[other] = words[other], words[one]
-    else:
-        place = rng.choice(places)
-        number = int(words[place])
-        near = [number + 1, max(0, number - 1), number ^ 1, number + rng.randint(0, 4)]
-        words[place] = str(rng.choice([*near, *near, rng.randint(0, 40), 10**18]))
-    return words
+def random_span(rng, leaf, net, waves):
+    """A span of a net: a stretch of some run, or one near to it."""
+    wave = rng.choice(waves)[net] if waves else [(-1, 0)]
+    which = rng.randrange(len(wave))
+    (moment, level), after = wave[which], [*wave, (EVER, 0)][which + 1][0]
+    gate = rng.choice(leaf.circuit.gates)
+    steps = [0, 0, 0, 1, -1, 2, gate.rise, -gate.fall]
+    first, last = max(0, moment + 1 + rng.choice(steps)), after + rng.choice(steps)
+    if rng.random() < 0.1:
+        last = rng.choice([EVER, first + rng.randint(0, 9)])
+    return Span(net, level ^ (rng.random() < 0.1), first, max(first, last))
 
 
-def random_step(rng, circuit):
-    """A step with numbers that may be there."""
-    letter = rng.choice(STEPS)
-    gates, nets = len(circuit.gates), len(circuit.gates) + circuit.inputs + 2
-    few, late = rng.randint(0, 2), rng.randint(0, 30)
-    numbers = {
-        "t": [rng.randint(0, gates), late, *(rng.randint(0, 2) for _ in range(rng.randint(1, 4)))],
-        "w": [rng.randint(0, gates), late, few],
-        "h": [rng.randint(0, gates), late, few, rng.randint(0, 6)],
-        "o": [rng.randint(0, nets), few, late, rng.randint(0, 30)],
-        "u": [rng.randint(0, 2 * circuit.inputs)],
-        "k": [few],
-        "l": [few, *(rng.randint(0, 9) for _ in range(2 * few + rng.randint(0, 3)))],
-        "c": [rng.randint(0, nets), late, few, *(rng.randint(0, 9) for _ in range(few))],
-        "g": [rng.randint(0, gates)],
-    }
-    return " ".join([letter, *map(str, numbers[letter])])
+def read_by(circuit, net):
+    """The nets that the gate of a net reads."""
+    return circuit.gates[net - circuit.inputs - 2].inputs if net >= circuit.inputs + 2 else []
 
 
-def tampered(rng, circuit, lines):
-    """The lines of a tree with some of those from an `r` to its `q` changed, taken away, doubled,
-    put elsewhere or put in.
+def random_variables(leaf, net, waves):
+    """Adds variables about a net and those that its gate reads, and some others."""
+    rng, circuit = leaf.rng, leaf.circuit
+    near = [net] * 3 + read_by(circuit, net)
+    for each in [*near, *near, rng.randrange(len(circuit.nets))]:
+        if rng.random() < 0.6:
+            leaf.span(random_span(rng, leaf, each, waves))
+        else:
+            leaf.variable(rng.choice("if"), leaf.numbers[each])
+    for which in range(circuit.inputs):
+        if rng.random() < 0.5:
+            leaf.variable(rng.choice("if"), leaf.numbers[which])
+    for _ in range(rng.choice([0, 1, 2])):
+        leaf.variable("c", rng.randint(0, circuit.inputs), rng.randint(0, 3))
+
+
+def literal_with(leaf, letters, nets=None):
+    """A literal of a variable of one of the letters and about one of the nets, if there is one."""
+    found = [
+        2 * number
+        for number, line in enumerate(leaf.variables)
+        if line[0] in letters and (nets is None or line[1] in nets)
+    ]
+    return leaf.rng.choice(found or [0]) + leaf.rng.randint(0, 1)
+
+
+def is_about(leaf, clause, number):
+    """Whether all literals of a clause are of how a net ends."""
+    lines = [leaf.variables[literal // 2] for literal in clause]
+    return all(letter in "wf" and net == number for letter, net, *_ in lines)
+
+
+def random_step(leaf, net):
+    """A step about a net that may well be good, as its letter and numbers."""
+    rng, circuit = leaf.rng, leaf.circuit
+    number, reads = leaf.numbers[net], [leaf.numbers[each] for each in read_by(circuit, net)]
+    letter, clauses = rng.choice("ggggttnnuulleer"), leaf.state.clauses
+    one = literal_with(leaf, "w" if rng.random() < 0.8 else "if", [number])
+    if letter == "g":
+        body = [literal_with(leaf, "wif", reads) for _ in range(rng.randint(0, 5))]
+        return "g", one & ~(rng.random() < 0.8), *(it | (rng.random() < 0.8) for it in body)
+    if letter == "t":
+        kind = rng.choice("if")
+        body = [literal_with(leaf, kind, reads) for _ in range(rng.randint(0, 4))]
+        return "t", literal_with(leaf, kind, [number]), *body
+    if letter == "n":
+        return "n", one, literal_with(leaf, "wif", [number])
+    if letter == "u":
+        some = [literal_with(leaf, "ifc") for _ in range(rng.choice([0, 1, 2, 3, 4, 6, 9]))]
+        return "u", *dict.fromkeys(some)
+    if letter == "r":
+        return "r", number if rng.random() < 0.9 else rng.randint(0, len(leaf.numbers))
+    about = [which for which, clause in enumerate(clauses) if is_about(leaf, clause, number)]
+    which = rng.choice((about if letter == "e" else range(len(clauses))) or [0])
+    literals = sorted(clauses[which]) if clauses else []
+    if letter == "l":
+        more = [literal_with(leaf, "wifc") for _ in range(rng.choice([0, 0, 1]))]
+        return "l", len(literals + more), *literals, *more, which
+    level, (low, high) = rng.randint(0, 1), sorted(leaf.state.ends[net])
+    place = rng.choice([low, high, max(0, high - 1), rng.randint(0, high + 1)])
+    return "e", number, level, place, len(literals), *literals, which
+
+
+def chatter(leaf, tries, waves):
+    """Writes random steps that are good. Gives one that isn't, if there was one."""
+    rng, bad = leaf.rng, None
+    net = rng.randrange(len(leaf.circuit.nets))
+    random_variables(leaf, net, waves)
+    for _ in range(tries):
+        step = random_step(leaf, net)
+        try:
+            leaf.add(*step)
+        except BadStep:
+            bad = step
+    return bad
+
+
+def random_lines(rng, circuit, question, cube, waves):
+    """The lines of a leaf of random steps without `x` and `q`, and how late an output may change
+    after them; the last step may be a bad one. `waves` has the waves of the nets in some runs.
     """
-    lines = list(lines)
-    for _ in range(rng.choice([1, 1, 1, 2, 3])):
-        inside = [place for place, line in enumerate(lines) if line[0] in STEPS + "rq"]
-        if not inside:
-            break
-        place, other = rng.choice(inside), rng.choice(inside)
-        way, step = rng.random(), lines[place][0] in STEPS
-        if lines[place][0] == "q" or way < 0.1:
-            places = [place for place in inside if lines[place][0] == "q"]
-            if places:
-                place = rng.choice(places)
-                number = int(lines[place].split(" ")[-1])
-                less = max(0, number - rng.choice([0, 1, 1, 2, number]))
-                lines[place] = f"q {rng.choice([less, less, number + 1])}"
-        elif step and way < 0.6:
-            lines[place] = " ".join(changed_words(rng, lines[place].split(" ")))
-        elif step and way < 0.7:
-            del lines[place]
-        elif step and way < 0.77:
-            lines.insert(other + (lines[other] == "r"), lines[place])
-        elif step and way < 0.87:
-            line = lines.pop(place)
-            lines.insert(max(0, other - (other > place)), line)
-        elif step and way < 0.95 or lines[place] == "r" and way < 0.5:
-            lines.insert(place + 1, random_step(rng, circuit))
-        elif lines[place] == "r":
-            lines[place] = rng.choice(["r", "r 0", "none", "b e 9", "p 0", "s 0"])
-    return lines
+    leaf = Written(circuit, question, cube, rng)
+    bad = None
+    for _ in range(rng.choice([1, 2, 4])):
+        bad = chatter(leaf, 30, waves) or bad
+        if rng.random() < 0.2:
+            sweep(leaf, 10, 2)
+    lines = leaf.lines()
+    if bad and rng.random() < 0.5:
+        lines.append(" ".join(map(str, bad)))
+    end = max((end for net in circuit.outputs for end in leaf.state.ends[net]), default=0)
+    return lines, max(0, end - 1)

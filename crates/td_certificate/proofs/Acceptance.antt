@@ -35,7 +35,7 @@ use Rattle.td_edges.specs.EdgeLaws as edges_laws
 use Rattle.td_certificate.specs.declared.tree.BoundedBy.{BoundedBy}
 use Rattle.td_certificate.specs.declared.tree.BoundedBy.TheVariants as by
 use Rattle.td_certificate.specs.declared.certificate.Certificate.{Certificate}
-use Rattle.td_refutation.proofs.AllSteps.{refuted_is_bounded}
+use Rattle.td_refutation.proofs.Steps.{refuted_is_bounded}
 use Rattle.td_certificate.specs.Trees.{Tree, Split, Bound, Point, Empty, RefutedLeaf, lines_of}
 use Rattle.td_certificate.specs.Walks.{lines_from}
 use Rattle.td_certificate.specs.Accepts.{IsBoundBy, IsGood, HasDelay, setting_of, Accepts, AcceptedIsWorst}

@@ -101,27 +101,27 @@ group b r s q n = simp append_assoc
 abbrev pub bound_line : Refuted → List ℕ
 bound_line refuted = ended (codes "q " ++ decimal refuted.bound)
 
-grouped : (batch : List ℕ) (refuted : Refuted) → batch ++ ended (refuted_line refuted) ≡ (batch ++ codes "r\n") ++ (steps_text refuted.steps ++ bound_line refuted)
-grouped batch refuted = group batch (codes "r\n") (steps_text refuted.steps) (codes "q " ++ decimal refuted.bound) (10 ∷ [])
+grouped : (batch : List ℕ) (refuted : Refuted) → batch ++ ended (refuted_line refuted) ≡ (batch ++ codes "x\n") ++ (steps_text refuted.steps ++ bound_line refuted)
+grouped batch refuted = group batch (codes "x\n") (steps_text refuted.steps) (codes "q " ++ decimal refuted.bound) (10 ∷ [])
 
 -- the writer failed in the lines before the steps
-pub refuted_failed : (a b : Output) (batch : List ℕ) (refuted : Refuted) → Failed a b (batch ++ codes "r\n") → Failed a b (batch ++ ended (refuted_line refuted))
+pub refuted_failed : (a b : Output) (batch : List ℕ) (refuted : Refuted) → Failed a b (batch ++ codes "x\n") → Failed a b (batch ++ ended (refuted_line refuted))
 refuted_failed a b batch refuted f =
-    subst (Failed a b) (sym (grouped batch refuted)) (Failed-longer a b (batch ++ codes "r\n") (steps_text refuted.steps ++ bound_line refuted) f)
+    subst (Failed a b) (sym (grouped batch refuted)) (Failed-longer a b (batch ++ codes "x\n") (steps_text refuted.steps ++ bound_line refuted) f)
 
 -- it failed in the steps
-pub steps_failed : (a b e : Output) (batch : List ℕ) (refuted : Refuted) → Sent a b (batch ++ codes "r\n") → Failed b e (steps_text refuted.steps)
+pub steps_failed : (a b e : Output) (batch : List ℕ) (refuted : Refuted) → Sent a b (batch ++ codes "x\n") → Failed b e (steps_text refuted.steps)
     → Failed a e (batch ++ ended (refuted_line refuted))
 steps_failed a b e batch refuted p f =
-    let front : List ℕ = batch ++ codes "r\n" in
+    let front : List ℕ = batch ++ codes "x\n" in
     subst (Failed a e) (append_assoc front (steps_text refuted.steps) (bound_line refuted) ∙ sym (grouped batch refuted))
     (Failed-longer a e (front ++ steps_text refuted.steps) (bound_line refuted) (Sent-failed a b e front (steps_text refuted.steps) p f))
 
 -- all but the line of the bound went out
-pub steps_sent : (a b e : Output) (batch : List ℕ) (refuted : Refuted) → Sent a b (batch ++ codes "r\n") → Sent b e (steps_text refuted.steps)
+pub steps_sent : (a b e : Output) (batch : List ℕ) (refuted : Refuted) → Sent a b (batch ++ codes "x\n") → Sent b e (steps_text refuted.steps)
     → SentTo a e (batch ++ ended (refuted_line refuted)) (bound_line refuted)
 steps_sent a b e batch refuted p q =
-    let front : List ℕ = batch ++ codes "r\n" in
+    let front : List ℕ = batch ++ codes "x\n" in
     record {
       front = front ++ steps_text refuted.steps;
       parts = grouped batch refuted ∙ sym (append_assoc front (steps_text refuted.steps) (bound_line refuted));

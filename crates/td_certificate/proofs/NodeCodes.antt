@@ -420,7 +420,7 @@ node_parts (node.Bound EdgesAndPossible bound) = refl
 node_parts (node.Point time) = refl
 node_parts node.Empty = refl
 node_parts (node.Refuted refuted) =
-    ap (λ (t : List ℕ). codes "r\n" ++ t) (append_assoc (steps_text refuted.steps) (codes "q " ++ decimal refuted.bound) (10 ∷ []))
+    ap (λ (t : List ℕ). codes "x\n" ++ t) (append_assoc (steps_text refuted.steps) (codes "q " ++ decimal refuted.bound) (10 ∷ []))
 
 -- a node that may stand there has one of its tags and domains, and its number is within the limit
 pub record MayStand (here : Leaves) (n : Node) : Type 0 where

@@ -8,7 +8,7 @@ use Rattle.std.proofs.lemmas.List.Concat.{flat_map-cons}
 use Rattle.std.proofs.lemmas.Bool.{eqb-true, ne_eqb, ltb-true, lt-ltb, leb-true, le-leb}
 use Rattle.std.proofs.lemmas.Fmt.{decimal_digit, decimal_by_steps}
 use Rattle.td_refutation.specs.declared.kind.StepKind.{StepKind}
-use Rattle.td_refutation.specs.declared.kind.StepKind.TheVariants.{Table, Window, Hold, Order, Fixed, Constant, Lemma, Cut, Again}
+use Rattle.td_refutation.specs.declared.kind.StepKind.TheVariants.{First, Last, Span, Flips, Gate, Table, Net, Pairs, Keep, Lemma, End, Again}
 use Rattle.td_certificate.specs.declared.fields.Reason.{Reason}
 use Rattle.td_certificate.specs.declared.fields.Reason.TheVariants.{Syntax, NumberTooLarge}
 use Rattle.td_certificate.specs.Spelling.{greatest}
@@ -370,14 +370,17 @@ abbrev tag_value : ℕ → Option LineTag
 tag_value b = written_as line_byte line_tags b
 
 tag_again : (x : LineTag) → tag_value (line_byte x) ≡ Some x
+tag_again (StepTag First) = refl
+tag_again (StepTag Last) = refl
+tag_again (StepTag Span) = refl
+tag_again (StepTag Flips) = refl
+tag_again (StepTag Gate) = refl
 tag_again (StepTag Table) = refl
-tag_again (StepTag Window) = refl
-tag_again (StepTag Hold) = refl
-tag_again (StepTag Order) = refl
-tag_again (StepTag Fixed) = refl
-tag_again (StepTag Constant) = refl
+tag_again (StepTag Net) = refl
+tag_again (StepTag Pairs) = refl
+tag_again (StepTag Keep) = refl
 tag_again (StepTag Lemma) = refl
-tag_again (StepTag Cut) = refl
+tag_again (StepTag End) = refl
 tag_again (StepTag Again) = refl
 tag_again BoundEndTag = refl
 
@@ -386,7 +389,7 @@ tag_letter = record {
   some = BoundEndTag;
   some_valid = tt;
   again = λ x v. tag_again x;
-  from = λ b x e. written_from Always line_byte line_tags (tt, (tt, (tt, (tt, (tt, (tt, (tt, (tt, (tt, (tt, tt)))))))))) b x e;
+  from = λ b x e. written_from Always line_byte line_tags (tt, (tt, (tt, (tt, (tt, (tt, (tt, (tt, (tt, (tt, (tt, (tt, (tt, tt))))))))))))) b x e;
 }
 
 bound_limit : IsLimit greatest 10

@@ -237,7 +237,7 @@ tag_byte SplitTag = 115
 tag_byte BoundTag = 98
 tag_byte PointTag = 112
 tag_byte EmptyTag = 110
-tag_byte RefutedTag = 114
+tag_byte RefutedTag = 120
 
 -- in the first version each leaf has an admitted pair
 abbrev pub tags : Leaves → List Tag

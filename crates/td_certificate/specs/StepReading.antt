@@ -3,7 +3,7 @@ use Rattle.std.specs.Prelude.{ℕ, zero, suc, ◌+◌, ◌-◌, ◌*◌, Bool, t
 use Rattle.std.specs.Char.{is_ascii_digit}
 use Rattle.td_refutation.specs.Whole.{Step}
 use Rattle.td_refutation.specs.declared.kind.StepKind.{StepKind}
-use Rattle.td_refutation.specs.declared.kind.StepKind.TheVariants.{Table, Window, Hold, Order, Fixed, Constant, Lemma, Cut, Again}
+use Rattle.td_refutation.specs.declared.kind.StepKind.TheVariants.{First, Last, Span, Flips, Gate, Table, Net, Pairs, Keep, Lemma, End, Again}
 use Rattle.td_certificate.specs.declared.fields.Reason.TheVariants.{Syntax, NumberTooLarge}
 use Rattle.td_certificate.specs.declared.steps.Line as code_line
 use Rattle.td_certificate.specs.declared.steps.Line.TheVariants as line
@@ -72,8 +72,8 @@ line_byte BoundEndTag = 113
 
 abbrev pub line_tags : List LineTag
 line_tags =
-    StepTag Table ∷ StepTag Window ∷ StepTag Hold ∷ StepTag Order ∷ StepTag Fixed ∷ StepTag Constant ∷ StepTag Lemma ∷ StepTag Cut
-    ∷ StepTag Again ∷ BoundEndTag ∷ []
+    StepTag First ∷ StepTag Last ∷ StepTag Span ∷ StepTag Flips ∷ StepTag Gate ∷ StepTag Table
+    ∷ StepTag Net ∷ StepTag Pairs ∷ StepTag Keep ∷ StepTag Lemma ∷ StepTag End ∷ StepTag Again ∷ BoundEndTag ∷ []
 
 -- a line in a leaf that is refuted: a step, or the bound
 pub data RefutedLine : Type 0 where
@@ -114,7 +114,7 @@ line_of (line.Bound bound) numbers = BoundLine bound
 
 -- the kind with this letter
 abbrev pub kind_of_byte : ℕ → Option StepKind
-kind_of_byte b = written_as kind_byte (Table ∷ Window ∷ Hold ∷ Order ∷ Fixed ∷ Constant ∷ Lemma ∷ Cut ∷ Again ∷ []) b
+kind_of_byte b = written_as kind_byte (First ∷ Last ∷ Span ∷ Flips ∷ Gate ∷ Table ∷ Net ∷ Pairs ∷ Keep ∷ Lemma ∷ End ∷ Again ∷ []) b
 
 -- steps and a bound
 unfoldable pub refuted_at : List ℕ → Reading Refuted

@@ -1,9 +1,9 @@
--- Steps of a refutation, and the lines that spell them.
+-- Steps of a refutation, those that have variables among them, and the lines that spell them.
 use Rattle.std.specs.Prelude.{ℕ, ◌≤◌, ◌^◌, List, [], ◌∷◌, ◌++◌, codes, decimal}
 use Rattle.std.specs.List.{flat_map, AllByRecursion}
 use Rattle.td_refutation.specs.declared.kind.StepKind.{StepKind}
 use Rattle.td_refutation.specs.Whole.{Step}
-use Rattle.td_refutation.specs.declared.kind.StepKind.TheVariants.{Table, Window, Hold, Order, Fixed, Constant, Lemma, Cut, Again}
+use Rattle.td_refutation.specs.declared.kind.StepKind.TheVariants.{First, Last, Span, Flips, Gate, Table, Net, Pairs, Keep, Lemma, End, Again}
 
 -- the greatest number of a certificate
 abbrev pub greatest : ℕ
@@ -11,15 +11,18 @@ greatest = 10 ^ 18
 
 -- the letter of a kind
 abbrev pub kind_byte : StepKind → ℕ
+kind_byte First = 105
+kind_byte Last = 102
+kind_byte Span = 119
+kind_byte Flips = 99
+kind_byte Gate = 103
 kind_byte Table = 116
-kind_byte Window = 119
-kind_byte Hold = 104
-kind_byte Order = 111
-kind_byte Fixed = 117
-kind_byte Constant = 107
+kind_byte Net = 110
+kind_byte Pairs = 117
+kind_byte Keep = 107
 kind_byte Lemma = 108
-kind_byte Cut = 99
-kind_byte Again = 103
+kind_byte End = 101
+kind_byte Again = 114
 
 -- numbers, each after a space
 abbrev pub spaced : List ℕ → List ℕ
@@ -44,7 +47,7 @@ pub record Refuted : Type 0 where
 
 -- the lines of a leaf that is refuted, but for the last newline
 abbrev pub refuted_line : Refuted → List ℕ
-refuted_line refuted = codes "r\n" ++ (steps_text refuted.steps ++ (codes "q " ++ decimal refuted.bound))
+refuted_line refuted = codes "x\n" ++ (steps_text refuted.steps ++ (codes "q " ++ decimal refuted.bound))
 
 pub record IsRefutedText (refuted : Refuted) : Type 0 where
   pub steps : AllByRecursion IsStep refuted.steps

@@ -313,7 +313,7 @@ pub fn node(alloc: Global, leaves: Leaves, text: &[u8]) -> Result<(Node, &[u8]),
             }
             Leaves::Later | Leaves::Any | Leaves::WithRefuted => empty(leaves, rest),
         },
-        [b'r', rest @ ..] => match leaves {
+        [b'x', rest @ ..] => match leaves {
             Leaves::First | Leaves::Later | Leaves::Any | Leaves::OfEdges => {
                 Err(Stop::Wrong(Reason::Syntax, text))
             }

@@ -15,15 +15,18 @@ fn letter(kind: StepKind) -> char
     ensures { encode_utf8 result ≡ kind_byte kind ∷ [] }
 {
     match kind {
+        StepKind::First => 'i',
+        StepKind::Last => 'f',
+        StepKind::Span => 'w',
+        StepKind::Flips => 'c',
+        StepKind::Gate => 'g',
         StepKind::Table => 't',
-        StepKind::Window => 'w',
-        StepKind::Hold => 'h',
-        StepKind::Order => 'o',
-        StepKind::Fixed => 'u',
-        StepKind::Constant => 'k',
+        StepKind::Net => 'n',
+        StepKind::Pairs => 'u',
+        StepKind::Keep => 'k',
         StepKind::Lemma => 'l',
-        StepKind::Cut => 'c',
-        StepKind::Again => 'g',
+        StepKind::End => 'e',
+        StepKind::Again => 'r',
     }
 }
 

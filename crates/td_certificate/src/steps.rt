@@ -84,15 +84,18 @@ fn kind_of(letter: u8) -> Option<StepKind>
     ensures { result ≡ kind_of_byte letter }
 {
     match letter {
+        b'i' => Some(StepKind::First),
+        b'f' => Some(StepKind::Last),
+        b'w' => Some(StepKind::Span),
+        b'c' => Some(StepKind::Flips),
+        b'g' => Some(StepKind::Gate),
         b't' => Some(StepKind::Table),
-        b'w' => Some(StepKind::Window),
-        b'h' => Some(StepKind::Hold),
-        b'o' => Some(StepKind::Order),
-        b'u' => Some(StepKind::Fixed),
-        b'k' => Some(StepKind::Constant),
+        b'n' => Some(StepKind::Net),
+        b'u' => Some(StepKind::Pairs),
+        b'k' => Some(StepKind::Keep),
         b'l' => Some(StepKind::Lemma),
-        b'c' => Some(StepKind::Cut),
-        b'g' => Some(StepKind::Again),
+        b'e' => Some(StepKind::End),
+        b'r' => Some(StepKind::Again),
         _ => None,
     }
 }

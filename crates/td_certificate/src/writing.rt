@@ -185,7 +185,7 @@ fn write_refuted<W: Sink>(
     ensures ok { OnOk result (SentTo (W.output out.old) (W.output out.new) (string_bytes batch.old ++ ended (refuted_line refuted.now)) (string_bytes batch.new)) }
     ensures err { IfErr result (λ fault. StopsIn fault (W.output out.old) (W.output out.new) (string_bytes batch.old ++ ended (refuted_line refuted.now))) }
 {
-    batch.push_str("r\n")?;
+    batch.push_str("x\n")?;
     out.write_all(batch.as_bytes())?;
     batch.clear();
     out.write_all(refuted.lines())?;

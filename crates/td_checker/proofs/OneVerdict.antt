@@ -22,7 +22,7 @@ use Rattle.td_certificate.proofs.Texts.{spells_once}
 use Rattle.td_certificate.proofs.VectorCodes.{cases, none_not, some_is}
 use Rattle.td_checker.specs.declared.verdict.Verdict.{Verdict}
 use Rattle.td_checker.specs.declared.verdict.Verdict.TheVariants as verdict
-use Rattle.td_checker.specs.Verdicts.{Flaw, Misplaced, NotOnePair, WrongNumber, NotEmpty, AboveTime, TooLarge, BadStep, SaysEmpty, IsWrong, IsLargeLeaf, HasBadStep, HasFlaw, line_total, reported_at, IsGoodIn, HasAdmittedPair, IsFirstBad, IsVerdict, OneVerdict}
+use Rattle.td_checker.specs.Verdicts.{Flaw, Misplaced, NotOnePair, WrongNumber, NotEmpty, AboveTime, BadStep, SaysEmpty, IsWrong, HasBadStep, HasFlaw, line_total, reported_at, IsGoodIn, HasAdmittedPair, IsFirstBad, IsVerdict, OneVerdict}
 use Rattle.td_checker.specs.Checks.{TextsHaveOneVerdict}
 
 -- a leaf's number is wrong only where it isn't so of its cube
@@ -47,51 +47,38 @@ no_steps given admit cube (node.Point time) place why plain is = absurd is
 no_steps given admit cube node.Empty place why plain is = absurd is
 no_steps given admit cube (node.Refuted refuted) place why plain is = absurd (let e : true ≡ false = plain in cc)
 
-not_large : {X : Type 0} (given : Setting) (admit : Admitted) (cube : List Trit) (n : Node) → is_refuted n ≡ false → IsLargeLeaf given admit cube n → X
-not_large given admit cube (node.Split position) plain is = absurd is
-not_large given admit cube (node.Bound domain bound) plain is = absurd is
-not_large given admit cube (node.Point time) plain is = absurd is
-not_large given admit cube node.Empty plain is = absurd is
-not_large given admit cube (node.Refuted refuted) plain is = absurd (let e : true ≡ false = plain in cc)
-
 one_flaw : (given : Setting) (admit : Admitted) (most : ℕ) (line : Line) (this that : Flaw) → is_refuted line.node ≡ false → HasFlaw given admit most this line → HasFlaw given admit most that line
     → this ≡ that
-one_flaw given admit most line Misplaced TooLarge p h k = not_large given admit line.cube line.node p k
 one_flaw given admit most line Misplaced (BadStep place why) p h k = no_steps given admit line.cube line.node place why p k
 one_flaw given admit most line Misplaced Misplaced p h k = refl
 one_flaw given admit most line Misplaced NotOnePair p h k = absurd (h k.0)
 one_flaw given admit most line Misplaced WrongNumber p h k = absurd (h k.0)
 one_flaw given admit most line Misplaced NotEmpty p h k = absurd (h k.0)
 one_flaw given admit most line Misplaced AboveTime p h k = absurd (h k.0)
-one_flaw given admit most line NotOnePair TooLarge p h k = not_large given admit line.cube line.node p k
 one_flaw given admit most line NotOnePair (BadStep place why) p h k = no_steps given admit line.cube line.node place why p k
 one_flaw given admit most line NotOnePair Misplaced p h k = absurd (k h.0)
 one_flaw given admit most line NotOnePair NotOnePair p h k = refl
 one_flaw given admit most line NotOnePair WrongNumber p h k = absurd (h.1 k.1)
 one_flaw given admit most line NotOnePair NotEmpty p h k = absurd (h.1 k.1)
 one_flaw given admit most line NotOnePair AboveTime p h k = absurd (h.1 k.1)
-one_flaw given admit most line WrongNumber TooLarge p h k = not_large given admit line.cube line.node p k
 one_flaw given admit most line WrongNumber (BadStep place why) p h k = no_steps given admit line.cube line.node place why p k
 one_flaw given admit most line WrongNumber Misplaced p h k = absurd (k h.0)
 one_flaw given admit most line WrongNumber NotOnePair p h k = absurd (k.1 h.1)
 one_flaw given admit most line WrongNumber WrongNumber p h k = refl
 one_flaw given admit most line WrongNumber NotEmpty p h k = not_empty given admit line.cube line.node h.2 k.3
 one_flaw given admit most line WrongNumber AboveTime p h k = not_so given admit line.cube line.node p h.2 k.2
-one_flaw given admit most line NotEmpty TooLarge p h k = not_large given admit line.cube line.node p k
 one_flaw given admit most line NotEmpty (BadStep place why) p h k = no_steps given admit line.cube line.node place why p k
 one_flaw given admit most line NotEmpty Misplaced p h k = absurd (k h.0)
 one_flaw given admit most line NotEmpty NotOnePair p h k = absurd (k.1 h.1)
 one_flaw given admit most line NotEmpty WrongNumber p h k = not_empty given admit line.cube line.node k.2 h.3
 one_flaw given admit most line NotEmpty NotEmpty p h k = refl
 one_flaw given admit most line NotEmpty AboveTime p h k = absurd (h.2 k.2)
-one_flaw given admit most line AboveTime TooLarge p h k = not_large given admit line.cube line.node p k
 one_flaw given admit most line AboveTime (BadStep place why) p h k = no_steps given admit line.cube line.node place why p k
 one_flaw given admit most line AboveTime Misplaced p h k = absurd (k h.0)
 one_flaw given admit most line AboveTime NotOnePair p h k = absurd (k.1 h.1)
 one_flaw given admit most line AboveTime WrongNumber p h k = not_so given admit line.cube line.node p k.2 h.2
 one_flaw given admit most line AboveTime NotEmpty p h k = absurd (k.2 h.2)
 one_flaw given admit most line AboveTime AboveTime p h k = refl
-one_flaw given admit most line TooLarge that p h k = not_large given admit line.cube line.node p h
 one_flaw given admit most line (BadStep place why) that p h k = no_steps given admit line.cube line.node place why p h
 
 -- a good line has no flaw
@@ -102,7 +89,6 @@ flawless given admit most line NotOnePair p good h = absurd (h.1 good.one_pair)
 flawless given admit most line WrongNumber p good h = not_so given admit line.cube line.node p h.2 good.of_cube
 flawless given admit most line NotEmpty p good h = absurd (h.2 good.of_cube)
 flawless given admit most line AboveTime p good h = absurd (h.3 good.within)
-flawless given admit most line TooLarge p good h = not_large given admit line.cube line.node p h
 flawless given admit most line (BadStep place why) p good h = no_steps given admit line.cube line.node place why p h
 
 -- where no node is refuted, no line is
@@ -173,7 +159,6 @@ verdict_of NotOnePair line = verdict.NotAPoint line
 verdict_of WrongNumber line = verdict.LeafBound line
 verdict_of NotEmpty line = verdict.LeafNotEmpty line
 verdict_of AboveTime line = verdict.LeafAboveTime line
-verdict_of TooLarge line = verdict.LeafBound line
 verdict_of (BadStep place why) line = verdict.BadStep line why
 
 data Reported (netlist : Netlist) (c : Certificate) (reported : Verdict) : Type 0 where
@@ -186,8 +171,7 @@ data Reported (netlist : Netlist) (c : Certificate) (reported : Verdict) : Type 
 reported_as : (netlist : Netlist) (c : Certificate) (reported : Verdict) → IsVerdict netlist c reported → Reported netlist c reported
 reported_as netlist c verdict.Accepted is = all_good refl is
 reported_as netlist c verdict.PairTime is = pair_time refl is.0 is.1 is.2
-reported_as netlist c (verdict.LeafBound line) (inl is) = bad_line WrongNumber line refl is
-reported_as netlist c (verdict.LeafBound line) (inr is) = bad_line TooLarge line refl is
+reported_as netlist c (verdict.LeafBound line) is = bad_line WrongNumber line refl is
 reported_as netlist c (verdict.BadStep line why) is = bad_line (BadStep is.0 why) line refl is.1
 reported_as netlist c (verdict.LeafAboveTime line) is = bad_line AboveTime line refl is
 reported_as netlist c (verdict.BadPosition line) is = bad_line Misplaced line refl is

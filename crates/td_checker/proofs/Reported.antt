@@ -1,5 +1,5 @@
 -- From what is said of a tree's lines to the verdict.
-use Rattle.std.proofs.Common.{◌≡◌, ◌+◌, ◌-◌, ◌*◌, ℕ, inl, inr, List, [], ◌∷◌, ◌++◌, length, map, refl, sym, ap, subst, ◌∙◌}
+use Rattle.std.proofs.Common.{◌≡◌, ◌+◌, ◌-◌, ◌*◌, ℕ, List, [], ◌∷◌, ◌++◌, length, map, refl, sym, ap, subst, ◌∙◌}
 use Rattle.std.specs.List.{AllByRecursion}
 use Rattle.td_nets.specs.Netlist.{Netlist}
 use Rattle.td_circuit.specs.Run.{IsDelayOfBits}
@@ -14,7 +14,7 @@ use Rattle.td_certificate.proofs.Acceptance.{at_moments}
 use Rattle.td_checker.specs.declared.judging.Flaw as code_flaw
 use Rattle.td_checker.specs.declared.judging.Flaw.TheVariants as code
 use Rattle.td_checker.specs.declared.checking.BadLine.{BadLine}
-use Rattle.td_checker.specs.Verdicts.{Flaw, Misplaced, NotOnePair, WrongNumber, NotEmpty, AboveTime, TooLarge, BadStep, HasAdmittedPair, IsFirstBad, IsVerdict}
+use Rattle.td_checker.specs.Verdicts.{Flaw, Misplaced, NotOnePair, WrongNumber, NotEmpty, AboveTime, BadStep, HasAdmittedPair, IsFirstBad, IsVerdict}
 use Rattle.td_checker.specs.Judging.{flaw_of, IsBadAt, IsFoundBad, reported_as}
 
 pub setting_is : (netlist : Netlist) (moments : List ℕ) (c : Certificate) → moments ≡ c.question.moments → at_moments netlist moments ≡ setting_of netlist c
@@ -40,10 +40,9 @@ reported : (netlist : Netlist) (c : Certificate) (flaw : code_flaw.Flaw) (at bef
     → IsVerdict netlist c (reported_as flaw line)
 reported netlist c code.Misplaced at before line size admitted reached is_tree is bad = first_bad netlist c Misplaced before line size admitted reached is_tree is bad
 reported netlist c code.NotOnePair at before line size admitted reached is_tree is bad = first_bad netlist c NotOnePair before line size admitted reached is_tree is bad
-reported netlist c code.WrongNumber at before line size admitted reached is_tree is bad = inl (first_bad netlist c WrongNumber before line size admitted reached is_tree is bad)
+reported netlist c code.WrongNumber at before line size admitted reached is_tree is bad = first_bad netlist c WrongNumber before line size admitted reached is_tree is bad
 reported netlist c code.NotEmpty at before line size admitted reached is_tree is bad = first_bad netlist c NotEmpty before line size admitted reached is_tree is bad
 reported netlist c code.AboveTime at before line size admitted reached is_tree is bad = first_bad netlist c AboveTime before line size admitted reached is_tree is bad
-reported netlist c code.TooLarge at before line size admitted reached is_tree is bad = inr (first_bad netlist c TooLarge before line size admitted reached is_tree is bad)
 reported netlist c (code.BadStep why) at before line size admitted reached is_tree is bad =
     (at - 1, first_bad netlist c (BadStep (at - 1) why) before line size admitted reached is_tree is bad)
 

@@ -1,175 +1,148 @@
 -- The steps of a leaf that is refuted, one after another.
 use Rattle.std.proofs.Common.{◌≡◌, ℕ, ◌+◌, ◌-◌, ◌<◌, ◌≤◌, ◌^◌, List, [], ◌∷◌, ◌++◌, length, take, length-append, refl, sym, ap, subst, ◌∙◌, append_assoc, arith}
-use Rattle.std.specs.Prelude.{slice_get, Some, None, Option, MatchOption, Err}
+use Rattle.std.specs.Prelude.{slice_get, Some, None}
 use Rattle.std.proofs.lemmas.Option.{slice_get_within}
 use Rattle.std.proofs.lemmas.List.{append-nil}
 use Rattle.std.proofs.Math.Seq.{take-append_seam}
 use Rattle.td_circuit.specs.Numbering.{Numbered, setting, IsNumbering}
 use Rattle.td_domain.specs.declared.cubes.Trit.{Trit}
 use Rattle.td_domain.specs.Admits.{Admitted}
-use Rattle.td_clauses.specs.declared.nets.NetSets.{NetSets}
-use Rattle.td_clauses.specs.declared.first.TheConstants.{LIMIT}
+use Rattle.td_spans.specs.Conditions.{Asked}
+use Rattle.td_spans.specs.Lowering.{latest_of}
 use Rattle.td_refutation.specs.declared.flaw.Flaw as step_flaw
 use Rattle.td_refutation.specs.declared.kind.StepKind.{StepKind}
 use Rattle.td_refutation.specs.declared.refutation.Refutation.{Refutation}
-use Rattle.td_refutation.specs.States.{sets_of, clauses_of, variables_of}
-use Rattle.td_refutation.specs.First.{first_sets}
-use Rattle.td_clauses.specs.First.{total}
-use Rattle.td_refutation.specs.Done.{IsDone, verdict_of, latest_of}
-use Rattle.td_refutation.specs.Whole.{Step, AreDone, variables_in, Reaches, IsOfSetting, IsRefuted, IsBadStep}
-use Rattle.td_refutation.proofs.AllSteps.{done_more}
+use Rattle.td_refutation.specs.Doing.{State, state_of, first_state, IsGood, after, flaw_of, AreGood, state_to}
+use Rattle.td_refutation.specs.Lines.{Step, deed_of}
+use Rattle.td_refutation.specs.Refuting.{all_admitted}
+use Rattle.td_refutation.specs.Whole.{IsOfSetting, IsRefuted, IsFirstBad, IsBadStep}
+use Rattle.td_refutation.proofs.Lists.{IsLed, led_more}
 use Rattle.td_certificate.specs.declared.tree.Node.TheVariants as node
 use Rattle.td_certificate.specs.Steps.{Refuted}
 use Rattle.td_certificate.specs.Lines.{IsNext}
 use Rattle.td_certificate.specs.Walks.{Line}
-use Rattle.td_checker.specs.Verdicts.{WrongNumber, AboveTime, TooLarge, BadStep}
+use Rattle.td_checker.specs.Verdicts.{WrongNumber, AboveTime, BadStep}
 use Rattle.td_checker.specs.Judging.{with_cube, IsFlawed, IsGoodLine}
-use Rattle.td_checker.specs.Stepping.{IsStepped, IsBegun, AreAllDone, IsFirstBadStep}
+use Rattle.td_checker.specs.Stepping.{IsStepped, AreAllDone, IsFirstBadStep}
 
 -- the steps before this place were done, and these are left
-pub record AreUnderWay (circuit : Numbered) (admit : Admitted) (cube : List Trit) (all : List Step) (left : List Step) (place : ℕ) (refutation : Refutation) : Type 0 where
+pub record AreUnderWay (circuit : Numbered) (asked : Asked) (cube : List Trit) (all : List Step) (left : List Step) (place : ℕ) (refutation : Refutation) : Type 0 where
   pub front : List Step
   pub parts : all ≡ front ++ left
   pub place_is : place ≡ length front
-  pub few : variables_in circuit admit cube ≤ LIMIT
-  pub variables : variables_of refutation ≡ variables_in circuit admit cube
-  pub done : AreDone circuit cube (variables_in circuit admit cube) front (first_sets circuit admit.held cube) [] (sets_of refutation) (clauses_of refutation)
+  pub led : IsLed circuit asked cube (first_state circuit asked cube) (state_of refutation) front
 
-pub under_way : (circuit : Numbered) (admit : Admitted) (cube : List Trit) (all left : List Step) (refutation : Refutation) → IsBegun circuit admit cube refutation → left ≡ all
-    → AreUnderWay circuit admit cube all left 0 refutation
-under_way circuit admit cube all left refutation begun is = record {
+pub under_way : (circuit : Numbered) (asked : Asked) (cube : List Trit) (all left : List Step) (refutation : Refutation) → state_of refutation ≡ first_state circuit asked cube
+    → left ≡ all → AreUnderWay circuit asked cube all left 0 refutation
+under_way circuit asked cube all left refutation begun is = record {
   front = [];
   parts = sym is;
   place_is = refl;
-  few = begun.few;
-  variables = begun.variables;
-  done = (begun.sets, begun.clauses);
+  led = record { good = tt; is = begun };
 }
 
-pub one_more : (circuit : Numbered) (admit : Admitted) (cube : List Trit) (all left after : List Step) (place : ℕ) (old new : Refutation) (kind : StepKind) (numbers : List ℕ)
-    → AreUnderWay circuit admit cube all left place old → IsNext left after numbers (Some kind) → IsStepped circuit cube old new kind numbers None
-    → AreUnderWay circuit admit cube all after (place + 1) new
-one_more circuit admit cube all left after place old new kind numbers so_far next step =
+pub one_more : (circuit : Numbered) (asked : Asked) (cube : List Trit) (all left after_ : List Step) (place : ℕ) (old new : Refutation) (kind : StepKind) (numbers : List ℕ)
+    → AreUnderWay circuit asked cube all left place old → IsNext left after_ numbers (Some kind) → IsStepped circuit asked cube old new kind numbers None
+    → AreUnderWay circuit asked cube all after_ (place + 1) new
+one_more circuit asked cube all left after_ place old new kind numbers so_far next step =
     let this : Step = record { kind = kind; numbers = numbers } in
-    let moved : IsDone circuit cube (variables_in circuit admit cube) kind numbers (sets_of old) (sets_of new) (clauses_of old) (clauses_of new) =
-    subst (λ (n : ℕ). IsDone circuit cube n kind numbers (sets_of old) (sets_of new) (clauses_of old) (clauses_of new)) so_far.variables step.0 in
     record {
       front = so_far.front ++ this ∷ [];
-      parts = so_far.parts ∙ ap (λ (steps : List Step). so_far.front ++ steps) next ∙ sym (append_assoc so_far.front (this ∷ []) after);
+      parts = so_far.parts ∙ ap (λ (steps : List Step). so_far.front ++ steps) next ∙ sym (append_assoc so_far.front (this ∷ []) after_);
       place_is = omega (arith, so_far.place_is, length-append so_far.front (this ∷ []));
-      few = so_far.few;
-      variables = step.1 ∙ so_far.variables;
-      done = done_more circuit cube (variables_in circuit admit cube) so_far.front this (first_sets circuit admit.held cube) [] (sets_of old) (clauses_of old) (sets_of new) (clauses_of new) so_far.done moved;
+      led = led_more circuit asked cube (first_state circuit asked cube) (state_of old) (state_of new) so_far.front this so_far.led step.0 step.1;
     }
 
 -- places are below the count of all steps
-pub place_low : (circuit : Numbered) (admit : Admitted) (cube : List Trit) (all left : List Step) (place : ℕ) (refutation : Refutation)
-    → AreUnderWay circuit admit cube all left place refutation → place + length left ≡ length all
-place_low circuit admit cube all left place refutation so_far = omega (arith, so_far.place_is, ap length so_far.parts, length-append so_far.front left)
+pub place_low : (circuit : Numbered) (asked : Asked) (cube : List Trit) (all left : List Step) (place : ℕ) (refutation : Refutation)
+    → AreUnderWay circuit asked cube all left place refutation → place + length left ≡ length all
+place_low circuit asked cube all left place refutation so_far = omega (arith, so_far.place_is, ap length so_far.parts, length-append so_far.front left)
 
 at_seam : {A : Type 0} (front : List A) (x : A) (back : List A) → slice_get (front ++ x ∷ back) (length front) ≡ Some x
 at_seam [] x back = refl
 at_seam (y ∷ front) x back = at_seam front x back
 
-pub first_bad_step : (circuit : Numbered) (admit : Admitted) (cube : List Trit) (all left after : List Step) (place : ℕ) (old new : Refutation) (kind : StepKind) (numbers : List ℕ) (flaw : step_flaw.Flaw)
-    → AreUnderWay circuit admit cube all left place old → IsNext left after numbers (Some kind) → IsStepped circuit cube old new kind numbers (Some flaw) → length all < 2 ^ 63
-    → IsFirstBadStep circuit admit cube all place flaw
-first_bad_step circuit admit cube all left after place old new kind numbers flaw so_far next bad few =
+pub first_bad_step : (circuit : Numbered) (asked : Asked) (cube : List Trit) (all left after_ : List Step) (place : ℕ) (old new : Refutation) (kind : StepKind) (numbers : List ℕ) (flaw : step_flaw.Flaw)
+    → AreUnderWay circuit asked cube all left place old → IsNext left after_ numbers (Some kind) → IsStepped circuit asked cube old new kind numbers (Some flaw) → length all < 2 ^ 63
+    → IsFirstBadStep circuit asked cube all place flaw
+first_bad_step circuit asked cube all left after_ place old new kind numbers flaw so_far next bad few =
     let this : Step = record { kind = kind; numbers = numbers } in
-    let whole : all ≡ so_far.front ++ this ∷ after = so_far.parts ∙ ap (λ (steps : List Step). so_far.front ++ steps) next in
+    let first : State = first_state circuit asked cube in
+    let whole : all ≡ so_far.front ++ this ∷ after_ = so_far.parts ∙ ap (λ (steps : List Step). so_far.front ++ steps) next in
     let front_is : take place all ≡ so_far.front = ap (λ (n : ℕ). take n all) so_far.place_is ∙ ap (take (length so_far.front)) so_far.parts ∙ take-append_seam so_far.front left in
-    let reached : Reaches circuit admit cube so_far.front = record { few = so_far.few; sets = sets_of old; clauses = clauses_of old; done = so_far.done } in
+    let state_is : state_of old ≡ state_to circuit first (take place all) = so_far.led.is ∙ ap (λ (steps : List Step). state_to circuit first steps) (sym front_is) in
     record {
-      low = omega (arith, place_low circuit admit cube all left place old so_far, few);
-      step = this;
-      stands = ap (slice_get all) so_far.place_is ∙ ap (λ (steps : List Step). slice_get steps (length so_far.front)) whole ∙ at_seam so_far.front this after;
-      reached = record {
-        few = so_far.few;
-        sets = sets_of old;
-        clauses = clauses_of old;
-        done = subst (λ (steps : List Step). AreDone circuit cube (variables_in circuit admit cube) steps (first_sets circuit admit.held cube) [] (sets_of old) (clauses_of old)) (sym front_is) so_far.done;
+      low = omega (arith, place_low circuit asked cube all left place old so_far, few);
+      first = record {
+        step = this;
+        stands = ap (slice_get all) so_far.place_is ∙ ap (λ (steps : List Step). slice_get steps (length so_far.front)) whole ∙ at_seam so_far.front this after_;
+        good = subst (λ (steps : List Step). AreGood circuit asked cube first steps) (sym front_is) so_far.led.good;
+        bad = λ good. bad.0 (subst (λ (s : State). IsGood circuit asked cube s (deed_of circuit kind numbers)) (sym state_is) good);
+        why = bad.1;
       };
-      bad = subst (λ (n : ℕ). verdict_of circuit cube (sets_of old) (clauses_of old) n kind numbers ≡ Err flaw) so_far.variables bad;
     }
 
-pub all_done : (circuit : Numbered) (admit : Admitted) (cube : List Trit) (all left after : List Step) (place : ℕ) (refutation : Refutation) (numbers : List ℕ)
-    → AreUnderWay circuit admit cube all left place refutation → IsNext left after numbers None → length all < 2 ^ 63
-    → AreAllDone circuit admit cube all (sets_of refutation) place
-all_done circuit admit cube all left after place refutation numbers so_far none few =
+pub all_done : (circuit : Numbered) (asked : Asked) (cube : List Trit) (all left after_ : List Step) (place : ℕ) (refutation : Refutation) (numbers : List ℕ)
+    → AreUnderWay circuit asked cube all left place refutation → IsNext left after_ numbers None → length all < 2 ^ 63
+    → AreAllDone circuit asked cube all (state_of refutation) place
+all_done circuit asked cube all left after_ place refutation numbers so_far none few =
+    let first : State = first_state circuit asked cube in
     let whole : so_far.front ≡ all = sym (so_far.parts ∙ ap (λ (steps : List Step). so_far.front ++ steps) none ∙ append-nil so_far.front) in
     record {
       count_is = so_far.place_is ∙ ap length whole;
       low = omega (arith, so_far.place_is, ap length whole, few);
-      reached = record {
-        few = so_far.few;
-        sets = sets_of refutation;
-        clauses = clauses_of refutation;
-        done = subst (λ (steps : List Step). AreDone circuit cube (variables_in circuit admit cube) steps (first_sets circuit admit.held cube) [] (sets_of refutation) (clauses_of refutation)) whole so_far.done;
-      };
-      sets_are = refl;
+      good = subst (λ (steps : List Step). AreGood circuit asked cube first steps) whole so_far.led.good;
+      state_is = so_far.led.is ∙ ap (λ (steps : List Step). state_to circuit first steps) whole;
     }
 
 -- ---- what is found of the leaf
 
-module _ (circuit : Numbered) (numbering : IsNumbering circuit) (admit : Admitted) (time : ℕ) (cube : List Trit) (refuted : Refuted) where
+module _ (circuit : Numbered) (numbering : IsNumbering circuit) (admit : Admitted) (time : ℕ) (cube : List Trit) (refuted : Refuted) (asked : Asked) (is : asked ≡ all_admitted admit) where
   of_setting : IsOfSetting (setting circuit) circuit
   of_setting = record { numbering = numbering; is = refl }
 
   abbrev line : Line
   line = with_cube cube (node.Refuted refuted)
 
-  pub bad_step_found : (place : ℕ) (flaw : step_flaw.Flaw) → IsFirstBadStep circuit admit cube refuted.steps place flaw
+  pub bad_step_found : (place : ℕ) (flaw : step_flaw.Flaw) → IsFirstBadStep circuit asked cube refuted.steps place flaw
       → IsFlawed (setting circuit) admit time line (BadStep (1 + place - 1) flaw) (1 + place)
   bad_step_found place flaw bad =
       let back : 1 + place - 1 ≡ place = omega arith in
-      let below = slice_get_within refuted.steps place bad.step bad.stands in
-      let here : IsBadStep (setting circuit) admit cube refuted.steps place flaw =
-      record { circuit = circuit; of_setting = of_setting; step = bad.step; stands = bad.stands; reached = bad.reached; bad = bad.bad } in
+      let below = slice_get_within refuted.steps place bad.first.step bad.first.stands in
+      let first : IsFirstBad circuit (all_admitted admit) cube refuted.steps place flaw = subst (λ (a : Asked). IsFirstBad circuit a cube refuted.steps place flaw) is bad.first in
+      let here : IsBadStep (setting circuit) admit cube refuted.steps place flaw = record { circuit = circuit; of_setting = of_setting; first = first } in
       record {
         has = subst (λ (p : ℕ). IsBadStep (setting circuit) admit cube refuted.steps p flaw) (sym back) here;
         at_is = omega (arith, back);
         inside = omega (arith, below);
       }
 
-  pub too_large_found : LIMIT < variables_in circuit admit cube → IsFlawed (setting circuit) admit time line TooLarge 0
-  too_large_found many = record {
-    has = record { circuit = circuit; of_setting = of_setting; many = many };
-    at_is = refl;
-    inside = omega arith;
-  }
+  module _ (state : State) (count : ℕ) (given : AreAllDone circuit asked cube refuted.steps state count) where
+    done : AreAllDone circuit (all_admitted admit) cube refuted.steps state count
+    done = subst (λ (a : Asked). AreAllDone circuit a cube refuted.steps state count) is given
 
-  module _ (sets : List NetSets) (count : ℕ) (done : AreAllDone circuit admit cube refuted.steps sets count) where
-    latest_is : latest_of done.reached.sets circuit.outputs ≡ latest_of sets circuit.outputs
-    latest_is = ap (λ (s : List NetSets). latest_of s circuit.outputs) done.sets_are
+    latest_is : latest_of (state_to circuit (first_state circuit (all_admitted admit) cube) refuted.steps).times circuit.outputs ≡ latest_of state.times circuit.outputs
+    latest_is = ap (λ (s : State). latest_of s.times circuit.outputs) (sym done.state_is)
 
-    pub above_bound_found : refuted.bound < latest_of sets circuit.outputs → IsFlawed (setting circuit) admit time line WrongNumber (1 + count)
+    pub above_bound_found : refuted.bound < latest_of state.times circuit.outputs → IsFlawed (setting circuit) admit time line WrongNumber (1 + count)
     above_bound_found above = record {
-      has = (tt, tt, record { circuit = circuit; of_setting = of_setting; reached = done.reached; above = omega (arith, above, latest_is) });
+      has = (tt, tt, record { circuit = circuit; of_setting = of_setting; good = done.good; above = omega (arith, above, latest_is) });
       at_is = omega (arith, done.count_is);
       inside = omega (arith, done.count_is);
     }
 
-    refuted_is : latest_of sets circuit.outputs ≤ refuted.bound → IsRefuted (setting circuit) admit cube refuted.steps refuted.bound
-    refuted_is within = record { circuit = circuit; of_setting = of_setting; reached = done.reached; within = omega (arith, within, latest_is) }
+    refuted_is : latest_of state.times circuit.outputs ≤ refuted.bound → IsRefuted (setting circuit) admit cube refuted.steps refuted.bound
+    refuted_is within = record { circuit = circuit; of_setting = of_setting; good = done.good; within = omega (arith, within, latest_is) }
 
-    pub above_time_found : latest_of sets circuit.outputs ≤ refuted.bound → time < refuted.bound → IsFlawed (setting circuit) admit time line AboveTime (1 + count)
+    pub above_time_found : latest_of state.times circuit.outputs ≤ refuted.bound → time < refuted.bound → IsFlawed (setting circuit) admit time line AboveTime (1 + count)
     above_time_found within above = record {
       has = (tt, tt, refuted_is within, λ (le : refuted.bound ≤ time). omega (arith, le, above));
       at_is = omega (arith, done.count_is);
       inside = omega (arith, done.count_is);
     }
 
-    pub good_found : latest_of sets circuit.outputs ≤ refuted.bound → refuted.bound ≤ time → IsGoodLine (setting circuit) admit time line (2 + count)
+    pub good_found : latest_of state.times circuit.outputs ≤ refuted.bound → refuted.bound ≤ time → IsGoodLine (setting circuit) admit time line (2 + count)
     good_found within below = record {
       good = record { splits = tt; one_pair = tt; of_cube = refuted_is within; within = below };
       count_is = omega (arith, done.count_is);
     }
-
-pub begun : (circuit : Numbered) (admit : Admitted) (cube : List Trit) (refutation : Refutation) (found : Option Refutation) → found ≡ Some refutation
-    → MatchOption found (LIMIT < variables_in circuit admit cube)
-    (λ refutation. (sets_of refutation ≡ first_sets circuit admit.held cube) × (clauses_of refutation ≡ []) × (variables_of refutation ≡ total (sets_of refutation)))
-    → variables_of refutation ≤ LIMIT → IsBegun circuit admit cube refutation
-begun circuit admit cube refutation found is first few =
-    let made = (rw is at first) in
-    let variables : variables_of refutation ≡ variables_in circuit admit cube = made.2 ∙ ap total made.0 in
-    record { few = omega (arith, few, variables); sets = made.0; clauses = made.1; variables = variables }

@@ -15,7 +15,7 @@ use Rattle.td_checker.specs.declared.verdict.Verdict.{Verdict}
 use Rattle.td_checker.specs.declared.verdict.Verdict.TheVariants as verdict
 use Rattle.td_checker.specs.declared.judging.Judged as code_judged
 use Rattle.td_checker.specs.declared.judging.Judged.TheVariants as judged
-use Rattle.td_checker.specs.Verdicts.{Flaw, Misplaced, NotOnePair, WrongNumber, NotEmpty, AboveTime, TooLarge, BadStep, HasFlaw, line_count, line_total, reported_at}
+use Rattle.td_checker.specs.Verdicts.{Flaw, Misplaced, NotOnePair, WrongNumber, NotEmpty, AboveTime, BadStep, HasFlaw, line_count, line_total, reported_at}
 
 -- the flaw; where it is a step's, `at` says at which of its node's lines
 abbrev pub flaw_of : code_flaw.Flaw → ℕ → Flaw
@@ -24,7 +24,6 @@ flaw_of code.NotOnePair at = NotOnePair
 flaw_of code.WrongNumber at = WrongNumber
 flaw_of code.NotEmpty at = NotEmpty
 flaw_of code.AboveTime at = AboveTime
-flaw_of code.TooLarge at = TooLarge
 flaw_of (code.BadStep why) at = BadStep (at - 1) why
 
 abbrev pub with_cube : List Trit → Node → Line
@@ -82,5 +81,4 @@ reported_as code.NotOnePair line = verdict.NotAPoint line
 reported_as code.WrongNumber line = verdict.LeafBound line
 reported_as code.NotEmpty line = verdict.LeafNotEmpty line
 reported_as code.AboveTime line = verdict.LeafAboveTime line
-reported_as code.TooLarge line = verdict.LeafBound line
 reported_as (code.BadStep why) line = verdict.BadStep line why

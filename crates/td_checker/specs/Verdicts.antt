@@ -1,5 +1,5 @@
 -- Verdicts on certificates.
-use Rattle.std.specs.Prelude.{◌≡◌, ◌⊎◌, ℕ, ◌+◌, false, List, [], ◌∷◌, codes, length, slice_get, take, Option, Some, None}
+use Rattle.std.specs.Prelude.{◌≡◌, ℕ, ◌+◌, false, List, [], ◌∷◌, codes, length, slice_get, take, Option, Some, None}
 use Rattle.std.specs.List.{AllByRecursion}
 use Rattle.td_nets.specs.Netlist.{Netlist}
 use Rattle.td_circuit.specs.Settings.{Setting}
@@ -9,7 +9,7 @@ use Rattle.td_certificate.specs.declared.tree.Node.{Node}
 use Rattle.td_certificate.specs.declared.tree.Node.TheVariants as node
 use Rattle.td_certificate.specs.declared.certificate.Certificate.{Certificate}
 use Rattle.td_refutation.specs.declared.flaw.Flaw as step_flaw
-use Rattle.td_refutation.specs.Whole.{IsTooLarge, IsBadStep, IsAboveBound}
+use Rattle.td_refutation.specs.Whole.{IsBadStep, IsAboveBound}
 use Rattle.td_certificate.specs.Trees.{IsTree, has_refuted}
 use Rattle.td_certificate.specs.Walks.{Line}
 use Rattle.td_certificate.specs.Spelling.{head_lines}
@@ -59,7 +59,6 @@ pub data Flaw : Type 0 where
   WrongNumber : Flaw
   NotEmpty : Flaw
   AboveTime : Flaw
-  TooLarge : Flaw
   BadStep : ℕ → step_flaw.Flaw → Flaw
 
 -- a leaf that says that no admitted pair lies in its cube
@@ -74,11 +73,6 @@ IsWrong setting admit cube (node.Split position) = ⊥
 IsWrong setting admit cube node.Empty = ⊥
 IsWrong setting admit cube (node.Bound domain bound) = ¬ IsOfCube setting admit cube (node.Bound domain bound)
 IsWrong setting admit cube (node.Point time) = ¬ IsOfCube setting admit cube (node.Point time)
-
--- the first sets of a leaf that is refuted are too large
-abbrev pub IsLargeLeaf : Setting → Admitted → List Trit → Node → Type 0
-IsLargeLeaf setting admit cube (node.Refuted refuted) = IsTooLarge setting admit cube
-IsLargeLeaf setting admit cube n = ⊥
 
 -- the step at this place of a leaf that is refuted is its first that isn't good, for this reason
 abbrev pub HasBadStep : Setting → Admitted → List Trit → Node → ℕ → step_flaw.Flaw → Type 0
@@ -95,7 +89,6 @@ HasFlaw setting admit most NotEmpty line =
     SplitsFree line.cube line.node × IsOfOnePair line.cube line.node × (¬ IsOfCube setting admit line.cube line.node) × SaysEmpty line.node
 HasFlaw setting admit most AboveTime line =
     SplitsFree line.cube line.node × IsOfOnePair line.cube line.node × IsOfCube setting admit line.cube line.node × (¬ IsWithin most line.node)
-HasFlaw setting admit most TooLarge line = IsLargeLeaf setting admit line.cube line.node
 HasFlaw setting admit most (BadStep place why) line = HasBadStep setting admit line.cube line.node place why
 
 -- ---- lines of the text
@@ -117,7 +110,6 @@ last_line n = 0
 
 -- at which of a node's lines a flaw is reported, counted from 0
 abbrev pub reported_at : Flaw → Node → ℕ
-reported_at TooLarge n = 0
 reported_at (BadStep place why) n = 1 + place
 reported_at Misplaced n = 0
 reported_at NotOnePair n = 0
@@ -159,7 +151,7 @@ IsVerdict netlist c verdict.PairNotAdmitted = IsOfSize netlist c × (¬ HasAdmit
 IsVerdict netlist c verdict.PairTime = IsOfSize netlist c × HasAdmittedPair c × (¬ HasItsTime netlist c)
 IsVerdict netlist c (verdict.BadPosition line) = IsFirstBad netlist c Misplaced line
 IsVerdict netlist c (verdict.NotAPoint line) = IsFirstBad netlist c NotOnePair line
-IsVerdict netlist c (verdict.LeafBound line) = IsFirstBad netlist c WrongNumber line ⊎ IsFirstBad netlist c TooLarge line
+IsVerdict netlist c (verdict.LeafBound line) = IsFirstBad netlist c WrongNumber line
 IsVerdict netlist c (verdict.BadStep line why) = (place : ℕ) × IsFirstBad netlist c (BadStep place why) line
 IsVerdict netlist c (verdict.LeafNotEmpty line) = IsFirstBad netlist c NotEmpty line
 IsVerdict netlist c (verdict.LeafAboveTime line) = IsFirstBad netlist c AboveTime line

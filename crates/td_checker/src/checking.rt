@@ -96,7 +96,6 @@ fn reported_of(flaw: Flaw, line: u32) -> Verdict
         Flaw::WrongNumber => Verdict::LeafBound(line),
         Flaw::NotEmpty => Verdict::LeafNotEmpty(line),
         Flaw::AboveTime => Verdict::LeafAboveTime(line),
-        Flaw::TooLarge => Verdict::LeafBound(line),
         Flaw::BadStep(flaw) => Verdict::BadStep(line, flaw),
     }
 }

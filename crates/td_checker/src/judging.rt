@@ -34,8 +34,6 @@ pub enum Flaw {
     NotEmpty,
     /// The number of a leaf is above the time.
     AboveTime,
-    /// The first sets of a leaf that is refuted have too many variables.
-    TooLarge,
     /// A step of such a leaf isn't good, for this reason.
     BadStep(StepFlaw),
 }

@@ -3,9 +3,10 @@
 ghost use Rattle.std.specs.Prelude.{◌≡◌, ◌*◌, length, Option, IfOk};
 ghost use Rattle.td_circuit.specs.Numbering.{setting};
 ghost use Rattle.td_certificate.specs.declared.tree.Node.TheVariants.{Refuted as RefutedNode};
-ghost use Rattle.td_refutation.specs.States.{sets_of, clauses_of, variables_of};
+ghost use Rattle.td_refutation.specs.Doing.{state_of, first_state};
+ghost use Rattle.td_refutation.specs.Refuting.{all_admitted};
 ghost use Rattle.td_checker.specs.Judging.{with_cube, IsJudged};
-ghost use Rattle.td_checker.specs.Stepping.{IsStepped, AreStepped, IsBegun};
+ghost use Rattle.td_checker.specs.Stepping.{IsStepped, AreStepped};
 
 use crate::judging::{Flaw, Judged};
 use std::alloc::{AllocError, Global};
@@ -13,6 +14,7 @@ use td_certificate::Refuted;
 use td_circuit::Circuit;
 use td_domain::{Admit, Cube};
 use td_refutation::{Flaw as StepFlaw, Refutation, StepError, StepKind};
+use td_spans::Question;
 
 /// What steps came to: all of them are good, and this is their number, or the one at this place
 /// isn't, for this reason.
@@ -22,43 +24,50 @@ pub enum Stepped {
     Bad(usize, StepFlaw),
 }
 
+/// The question of the admitted pairs, without a condition.
+fn asked_of(alloc: Global, admit: &Admit) -> Result<Question, AllocError>
+    ensures { IfOk result (λ question. question ≡ all_admitted admit.now) }
+{
+    let admit = admit.copy(alloc)?;
+    Ok(Question::new(admit, Vec::new(alloc)))
+}
+
 /// Does a step, and answers why it isn't good, where it isn't.
 fn do_step(
     alloc: Global,
     circuit: &Circuit,
+    question: &Question,
     cube: &Cube,
     refutation: &mut Refutation,
     kind: StepKind,
     numbers: &[u64],
 ) -> Result<Option<StepFlaw>, AllocError>
-    requires { length cube.now ≡ 2 * length circuit.now.netlist.inputs }
-    ensures { IfOk result (IsStepped circuit.now cube.now refutation.old refutation.new kind numbers.now) }
+    ensures { IfOk result (IsStepped circuit.now question.now cube.now refutation.old refutation.new kind numbers.now) }
 {
-    match refutation.step(alloc, circuit, cube, kind, numbers) {
+    match refutation.step(alloc, circuit, question, cube, kind, numbers) {
         Ok(()) => Ok(None),
         Err(StepError::OutOfMemory) => Err(AllocError),
         Err(StepError::Flaw(flaw)) => Ok(Some(flaw)),
     }
 }
 
-/// Does the steps of a leaf, from the first sets of its cube on, up to the first that isn't good.
+/// Does the steps of a leaf, from the first state on, up to the first that isn't good.
 fn do_steps(
     alloc: Global,
     circuit: &Circuit,
-    admit: &Admit,
+    question: &Question,
     cube: &Cube,
     refuted: &Refuted,
     refutation: &mut Refutation,
 ) -> Result<Stepped, AllocError>
-    requires cube { length cube.now ≡ 2 * length circuit.now.netlist.inputs }
-    requires begun { IsBegun circuit.now admit.now cube.now refutation.old }
-    ensures { IfOk result (AreStepped circuit.now admit.now cube.now refuted.now.steps (sets_of refutation.new)) }
+    requires begun { state_of refutation.old ≡ first_state circuit.now question.now cube.now }
+    ensures { IfOk result (AreStepped circuit.now question.now cube.now refuted.now.steps (state_of refutation.new)) }
 {
     let mut steps = refuted.steps();
     let mut numbers = Vec::new(alloc);
     let mut place = 0;
     while let Some(kind) = steps.next(&mut numbers)? {
-        if let Some(flaw) = do_step(alloc, circuit, cube, refutation, kind, &numbers)? {
+        if let Some(flaw) = do_step(alloc, circuit, question, cube, refutation, kind, &numbers)? {
             return Ok(Stepped::Bad(place, flaw));
         }
         place += 1;
@@ -81,10 +90,9 @@ pub fn judge_refuted(
 {
     // For the prover: this call says that the gates are in order.
     let _gates = circuit.gates();
-    let Some(mut refutation) = Refutation::new(alloc, circuit, admit, cube)? else {
-        return Ok(Judged::Bad(Flaw::TooLarge, 0));
-    };
-    match do_steps(alloc, circuit, admit, cube, refuted, &mut refutation)? {
+    let question = asked_of(alloc, admit)?;
+    let mut refutation = Refutation::new(alloc, circuit, &question, cube)?;
+    match do_steps(alloc, circuit, &question, cube, refuted, &mut refutation)? {
         Stepped::Bad(place, flaw) => Ok(Judged::Bad(Flaw::BadStep(flaw), 1 + place)),
         Stepped::Done(count) => {
             if refutation.bound(circuit) > refuted.bound() {

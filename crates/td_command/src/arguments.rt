@@ -414,10 +414,9 @@ out",
             "auto",
             "How the search goes. `least` and `lead` split cubes of pairs; `lead`\n\
 climbs to a first pair and bounds by edges, and its certificates are\n\
-of version 4. `refute` asks a solver which changes of nets are\n\
-impossible, and its certificates are of version 5. `auto` is `least` for\n\
-10,000 nodes, then `lead` for up to 50,000, then `refute`, until one of\n\
-them ends",
+of version 4. `refute` asks a solver how long nets keep their levels,\n\
+and its certificates are of version 5. `auto` is a short `least`, a short\n\
+`lead`, then `refute`, then `lead` again, until one of them ends",
         )
     }
 
@@ -454,8 +453,8 @@ them ends",
             0,
             MOST_NODES,
             "1000000",
-            "The most nodes of trees of cubes that are handled, and the most\n\
-conflicts that a solver meets",
+            "The most nodes of trees of cubes that are handled, and the most work\n\
+of `refute`, in units",
         )?;
         self.count(
             "seconds",

@@ -7,17 +7,9 @@ use Rattle.td_refutation.specs.declared.flaw.Flaw.TheVariants as flaw
 
 -- why a step of a refutation isn't good
 abbrev pub flaw_sentence : Flaw → List ℕ
-flaw_sentence flaw.WrongCount = codes "a step with too few numbers, or too many"
-flaw_sentence flaw.NoSuchGate = codes "a step names a gate that doesn't exist"
-flaw_sentence flaw.NoSuchNet = codes "a step names a net that doesn't exist"
-flaw_sentence flaw.NoSuchLevel = codes "a step with a level above 1, or a trit above 2"
-flaw_sentence flaw.NoSuchMoment = codes "a step with a moment above 10^18"
-flaw_sentence flaw.NoSuchClause = codes "a step whose name stands for no clause"
-flaw_sentence flaw.NoSuchLiteral = codes "a step names a literal of a variable that doesn't exist"
-flaw_sentence flaw.NoSuchHint = codes "a step names a clause that doesn't exist"
-flaw_sentence flaw.HintOpen = codes "a step in which the clause of a hint has several literals left"
-flaw_sentence flaw.NotShown = codes "a step whose hints end without a clause that is false"
-flaw_sentence flaw.NoSuchChange = codes "a step that cuts off a change which isn't possible any more"
+flaw_sentence flaw.WrongNumbers = codes "a line with too few numbers, too many, or one that is out of range"
+flaw_sentence flaw.LateVariable = codes "a variable after a step"
+flaw_sentence flaw.NotGood = codes "a step that doesn't hold of this circuit"
 
 abbrev pub sentence : Verdict → List ℕ
 sentence verdict.Accepted = codes "the certificate is right"

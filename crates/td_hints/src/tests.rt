@@ -112,7 +112,7 @@ fn faults_of_certificates_have_lines(rt: HostRuntime) -> Result<(), Fail> {
     Ok(())
 }
 
-const VERDICTS: [Verdict; 20] = [
+const VERDICTS: [Verdict; 12] = [
     Verdict::Accepted,
     Verdict::PairTime,
     Verdict::LeafBound(7),
@@ -122,17 +122,9 @@ const VERDICTS: [Verdict; 20] = [
     Verdict::OtherCircuit,
     Verdict::PairNotAdmitted,
     Verdict::LeafNotEmpty(7),
-    Verdict::BadStep(7, Flaw::WrongCount),
-    Verdict::BadStep(7, Flaw::NoSuchGate),
-    Verdict::BadStep(7, Flaw::NoSuchNet),
-    Verdict::BadStep(7, Flaw::NoSuchLevel),
-    Verdict::BadStep(7, Flaw::NoSuchMoment),
-    Verdict::BadStep(7, Flaw::NoSuchClause),
-    Verdict::BadStep(7, Flaw::NoSuchLiteral),
-    Verdict::BadStep(7, Flaw::NoSuchHint),
-    Verdict::BadStep(7, Flaw::HintOpen),
-    Verdict::BadStep(7, Flaw::NotShown),
-    Verdict::BadStep(7, Flaw::NoSuchChange),
+    Verdict::BadStep(7, Flaw::WrongNumbers),
+    Verdict::BadStep(7, Flaw::LateVariable),
+    Verdict::BadStep(7, Flaw::NotGood),
 ];
 
 #[test]

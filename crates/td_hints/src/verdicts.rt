@@ -6,22 +6,14 @@ ghost use Rattle.td_hints.specs.Verdicts.{flaw_sentence, sentence, advice};
 use td_checker::Verdict;
 use td_refutation::Flaw;
 
-/// Why a step of a refutation isn't good.
+/// Why a line of a refutation isn't good.
 pub fn flaw_sentence(flaw: Flaw) -> &'static [u8]
     ensures { result.now ≡ flaw_sentence flaw }
 {
     match flaw {
-        Flaw::WrongCount => b"a step with too few numbers, or too many",
-        Flaw::NoSuchGate => b"a step names a gate that doesn't exist",
-        Flaw::NoSuchNet => b"a step names a net that doesn't exist",
-        Flaw::NoSuchLevel => b"a step with a level above 1, or a trit above 2",
-        Flaw::NoSuchMoment => b"a step with a moment above 10^18",
-        Flaw::NoSuchClause => b"a step whose name stands for no clause",
-        Flaw::NoSuchLiteral => b"a step names a literal of a variable that doesn't exist",
-        Flaw::NoSuchHint => b"a step names a clause that doesn't exist",
-        Flaw::HintOpen => b"a step in which the clause of a hint has several literals left",
-        Flaw::NotShown => b"a step whose hints end without a clause that is false",
-        Flaw::NoSuchChange => b"a step that cuts off a change which isn't possible any more",
+        Flaw::WrongNumbers => b"a line with too few numbers, too many, or one that is out of range",
+        Flaw::LateVariable => b"a variable after a step",
+        Flaw::NotGood => b"a step that doesn't hold of this circuit",
     }
 }
 

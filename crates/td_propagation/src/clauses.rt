@@ -55,7 +55,7 @@ fn follow(clauses: &Arena, denied: &mut Denied, hints: &[u64]) -> Result<Outcome
 }
 
 impl Clauses {
-    ghost use Rattle.std.specs.Prelude.{◌≡◌, ◌++◌, ◌∷◌, [], ℕ, Bool, IfOk, OnOk, OnErr};
+    ghost use Rattle.std.specs.Prelude.{◌≡◌, ◌+◌, ◌++◌, ◌∷◌, [], ℕ, Bool, IfOk, OnOk, OnErr};
     ghost use Rattle.td_propagation.specs.Literals.{IsTrueUnder};
     ghost use Rattle.td_propagation.specs.Following.{shown_by, AreTrue};
     ghost use Rattle.td_propagation.specs.Lists.{list_of, variables_of};
@@ -69,6 +69,15 @@ impl Clauses {
             clauses: Arena::new(alloc),
             denied: Denied::new(alloc, variables)?,
         })
+    }
+
+    /// Adds a variable. The error is out of memory, and then all is as before.
+    pub fn add_variable(&mut self) -> Result<(), AllocError>
+        ensures ok { OnOk result (variables_of self.new ≡ variables_of self.old + 1) }
+        ensures err { OnErr result (variables_of self.new ≡ variables_of self.old) }
+        ensures list { list_of self.new ≡ list_of self.old }
+    {
+        self.denied.add_variable()
     }
 
     /// Where the hints lead when the literals are taken to be false. The error is out of memory.

@@ -1,6 +1,6 @@
 //! Literals that are taken to be false.
 
-ghost use Rattle.std.specs.Prelude.{◌≡◌, ℕ, ◌<◌, length, get_or, IfOk, OnOk, replicate};
+ghost use Rattle.std.specs.Prelude.{◌≡◌, ℕ, ◌<◌, ◌++◌, ◌∷◌, [], length, get_or, IfOk, OnOk, OnErr, replicate};
 ghost use Rattle.std.specs.List.{All, Contains};
 ghost use Rattle.td_propagation.specs.Marks.{no_mark, with_mark, mark_of, is_denied, denied, all_denied};
 ghost use Rattle.td_propagation.specs.Propagating.{left_of};
@@ -83,6 +83,17 @@ impl Denied {
             marks,
             trail: Vec::new(alloc),
         })
+    }
+
+    /// Adds a variable, of which nothing is taken. The error is out of memory, and then all is as
+    /// before.
+    pub fn add_variable(&mut self) -> Result<(), AllocError>
+        ensures ok { OnOk result (self.new.marks.items ≡ self.old.marks.items ++ no_mark ∷ []) }
+        ensures err { OnErr result (self.new.marks.items ≡ self.old.marks.items) }
+    {
+        self.marks.reserve(1)?;
+        self.marks.push_reserved(Mark::none());
+        Ok(())
     }
 
     /// Whether the literal is taken to be false.

@@ -1,11 +1,5 @@
-pub mod Reading
-pub mod Lookups
-pub mod Naming
-pub mod Lemmas
-pub mod Timing
+pub mod Lines
+pub mod Doing
+pub mod Lowers
 pub mod Refuting
-pub mod First
-pub mod Steps
-pub mod Done
-pub mod States
 pub mod Whole

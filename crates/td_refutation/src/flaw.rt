@@ -1,35 +1,21 @@
-//! Why a step isn't good.
+//! Why a line isn't good.
 
 use std::alloc::{AllocError, AllocFailed};
+use td_spans::Fault;
 
-/// Why a step of a refutation isn't good.
+/// Why a line of a refutation isn't good.
 #[derive(Clone, Copy, Debug, PartialEq, Eq, Drop)]
 pub enum Flaw {
-    /// Too few numbers, or too many.
-    WrongCount,
-    /// No gate has this number.
-    NoSuchGate,
-    /// No net has this number.
-    NoSuchNet,
-    /// A level above 1, or a trit above 2.
-    NoSuchLevel,
-    /// A moment above 10^18.
-    NoSuchMoment,
-    /// The name stands for no clause.
-    NoSuchClause,
-    /// A literal of a variable that there isn't.
-    NoSuchLiteral,
-    /// No clause has the number of a hint.
-    NoSuchHint,
-    /// The clause of a hint has several literals left.
-    HintOpen,
-    /// The hints end without a clause that is false.
-    NotShown,
-    /// The change to be cut isn't possible any more.
-    NoSuchChange,
+    /// Its numbers aren't those of such a line: too few or too many, one that names no net, a level
+    /// above 1, a span that ends before it begins, or a literal that is too large.
+    WrongNumbers,
+    /// A variable after a step.
+    LateVariable,
+    /// What the step needs doesn't hold.
+    NotGood,
 }
 
-/// Why a step wasn't done: out of memory, or it isn't good.
+/// Why a line wasn't done: out of memory, or it isn't good.
 #[derive(Clone, Copy, Debug, PartialEq, Eq, Drop)]
 pub enum StepError {
     OutOfMemory,
@@ -55,5 +41,19 @@ impl<T: Drop> From<AllocFailed<T>> for StepError {
 
     fn from(_e: AllocFailed<T>) -> StepError {
         StepError::OutOfMemory
+    }
+}
+
+impl From<Fault> for StepError {
+    ghost use Rattle.std.specs.Prelude.{◌≡◌};
+    ghost use Rattle.td_refutation.specs.Doing.{error_of};
+
+    ghost from_gives = { λ fault e. e ≡ error_of fault };
+
+    fn from(fault: Fault) -> StepError {
+        match fault {
+            Fault::OutOfMemory => StepError::OutOfMemory,
+            Fault::NotGood => StepError::Flaw(Flaw::NotGood),
+        }
     }
 }

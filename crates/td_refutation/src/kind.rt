@@ -1,25 +1,31 @@
-//! What steps do.
+//! What lines of a refutation do.
 
-/// What a step does.
+/// What a line does. The first four kinds are of variables, which come before all steps.
 #[derive(Clone, Copy, Debug, PartialEq, Eq, Drop)]
 pub enum StepKind {
-    /// Adds the clause of a gate's table on levels of its inputs, of which some may be unknown.
+    /// Has a variable for the level at which a net starts.
+    First,
+    /// Has a variable for the level at which a net ends.
+    Last,
+    /// Has a variable for a net's level at all places of a span.
+    Span,
+    /// Has a variable for how many of the first inputs differ.
+    Flips,
+    /// Adds the clause of a gate: by what is known of its inputs, its output surely is at a level
+    /// at all places of a span.
+    Gate,
+    /// Adds the clause of a gate's table, on levels at the start or in the end.
     Table,
-    /// Adds the clause that a level that a gate's target keeps for the delay to it is its output's.
-    Window,
-    /// Adds the clause that a gate's target had a level that its output changes to.
-    Hold,
-    /// Adds the clause that a net keeps a level that no change possible between two places leads
-    /// away from.
-    Order,
-    /// Adds the clause of a bit that the cube fixes.
-    Fixed,
-    /// Adds the clause of a constant.
-    Constant,
+    /// Adds the clause that a net has one level at a place.
+    Net,
+    /// Adds a clause whose literals no admitted pair of the cube makes false at once.
+    Pairs,
+    /// Adds the clause of a condition.
+    Keep,
     /// Adds a clause that hints show.
     Lemma,
-    /// Takes a change that hints show impossible out of a net's set.
-    Cut,
-    /// Takes the sets of a gate again from those of its inputs.
+    /// Lowers a net's end for a level, by a clause that hints show.
+    End,
+    /// Takes the ends of a gate's output again from those of its inputs.
     Again,
 }

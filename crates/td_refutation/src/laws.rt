@@ -2,8 +2,8 @@
 
 ghost use Rattle.td_refutation.specs.Whole.{RefutedIsBounded};
 
-/// Where steps are accepted from a setting and a cube with a bound, no admitted pair of the cube
-/// has a delay above it.
+/// Where lines are good in the refutation of a cube, and after them no output may change later than
+/// a bound, no admitted pair of the cube has a greater delay.
 pub fn refuted_is_bounded()
     ensures { RefutedIsBounded }
 {}

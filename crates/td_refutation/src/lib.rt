@@ -1,17 +1,13 @@
-//! Refutations: steps that show that no admitted pair of a cube changes an output later than a
-//! moment.
+//! Refutations: lines that show that no admitted pair of a cube changes an output later than a
+//! moment. A line is a letter and numbers, as a certificate has it; what it means is said by
+//! clauses on spans of places at which nets keep a level.
 #![tactic(auto)]
 
-mod first;
 mod flaw;
 mod kind;
 pub mod laws;
-mod lemma;
-mod lookup;
-mod naming;
-mod reading;
+mod lines;
 mod refutation;
-mod showing;
 mod whole;
 
 pub use flaw::{Flaw, StepError};

@@ -1,8 +1,10 @@
 //! Whole refutations.
 
-ghost use Rattle.std.specs.Prelude.{◌≡◌, ◌*◌, length, IfOk};
+ghost use Rattle.std.specs.Prelude.{◌≡◌, ◌*◌, length, map, IfOk, IfErr};
 ghost use Rattle.td_circuit.specs.Numbering.{setting};
 ghost use Rattle.td_refutation.specs.Refuting.{IsUpperBoundOf};
+ghost use Rattle.td_refutation.specs.Doing.{state_of, first_state};
+ghost use Rattle.td_refutation.specs.Whole.{step_of, AreDone, IsRefuted, IsRefusal};
 
 use crate::flaw::{Flaw, StepError};
 use crate::kind::StepKind;
@@ -10,20 +12,19 @@ use crate::refutation::Refutation;
 use std::alloc::Global;
 use td_circuit::Circuit;
 use td_domain::{Admit, Cube};
+use td_spans::Question;
 
-/// A step: what it does, and its numbers.
+/// A line: what it does, and its numbers.
 #[derive(Drop)]
 pub struct Step {
     pub kind: StepKind,
     pub numbers: Vec<u64>,
 }
 
-/// Why a refutation isn't accepted: out of memory, sets with too many variables, or a step that
-/// isn't good, by its place.
+/// Why a refutation isn't accepted: out of memory, or a line that isn't good, by its place.
 #[derive(Clone, Copy, Debug, PartialEq, Eq, Drop)]
 pub enum Refusal {
     OutOfMemory,
-    TooManyVariables,
     BadStep(usize, Flaw),
 }
 
@@ -38,7 +39,50 @@ impl From<std::alloc::AllocError> for Refusal {
     }
 }
 
-/// The bound that the steps of a refutation show: no admitted pair of the cube has a greater delay.
+// Does lines, one after another, up to the first that isn't good.
+fn do_steps(
+    alloc: Global,
+    circuit: &Circuit,
+    question: &Question,
+    cube: &Cube,
+    refutation: &mut Refutation,
+    steps: &[Step],
+) -> Result<(), Refusal>
+    requires begun { state_of refutation.old ≡ first_state circuit.now question.now cube.now }
+    ensures { AreDone circuit.now question.now cube.now (map step_of steps.now) (state_of refutation.new) result }
+{
+    for (place, step) in steps.iter().enumerate() {
+        match refutation.step(alloc, circuit, question, cube, step.kind, &step.numbers) {
+            Ok(()) => {}
+            Err(StepError::OutOfMemory) => return Err(Refusal::OutOfMemory),
+            Err(StepError::Flaw(flaw)) => return Err(Refusal::BadStep(place, flaw)),
+        }
+    }
+    Ok(())
+}
+
+// The bound that lines show, or why they aren't accepted.
+fn judged(
+    alloc: Global,
+    circuit: &Circuit,
+    admit: &Admit,
+    cube: &Cube,
+    steps: &[Step],
+) -> Result<u64, Refusal>
+    requires held { length admit.now.held ≡ length circuit.now.netlist.inputs }
+    requires cube { length cube.now ≡ 2 * length circuit.now.netlist.inputs }
+    ensures shown { IfOk result (IsRefuted (setting circuit.now) admit.now cube.now (map step_of steps.now)) }
+    ensures refused { IfErr result (IsRefusal (setting circuit.now) admit.now cube.now (map step_of steps.now)) }
+{
+    // For the prover: this call says that the gates are in order.
+    let _gates = circuit.gates();
+    let question = Question::new(admit.copy(alloc)?, Vec::new(alloc));
+    let mut refutation = Refutation::new(alloc, circuit, &question, cube)?;
+    do_steps(alloc, circuit, &question, cube, &mut refutation, steps)?;
+    Ok(refutation.bound(circuit))
+}
+
+/// The bound that the lines of a refutation show: no admitted pair of the cube has a greater delay.
 /// Else why they aren't accepted.
 pub fn refuted(
     alloc: Global,
@@ -49,17 +93,12 @@ pub fn refuted(
 ) -> Result<u64, Refusal>
     requires held { length admit.now.held ≡ length circuit.now.netlist.inputs }
     requires cube { length cube.now ≡ 2 * length circuit.now.netlist.inputs }
-    ensures { IfOk result (IsUpperBoundOf (setting circuit.now) admit.now cube.now) }
+    ensures shown { IfOk result (IsRefuted (setting circuit.now) admit.now cube.now (map step_of steps.now)) }
+    ensures bound { IfOk result (IsUpperBoundOf (setting circuit.now) admit.now cube.now) }
+    ensures refused { IfErr result (IsRefusal (setting circuit.now) admit.now cube.now (map step_of steps.now)) }
 {
-    let Some(mut refutation) = Refutation::new(alloc, circuit, admit, cube)? else {
-        return Err(Refusal::TooManyVariables);
-    };
-    for (place, step) in steps.iter().enumerate() {
-        match refutation.step(alloc, circuit, cube, step.kind, &step.numbers) {
-            Ok(()) => {}
-            Err(StepError::OutOfMemory) => return Err(Refusal::OutOfMemory),
-            Err(StepError::Flaw(flaw)) => return Err(Refusal::BadStep(place, flaw)),
-        }
-    }
-    Ok(refutation.bound(circuit))
+    // For the prover: this call says that each input has a moment.
+    let _moments = circuit.moments();
+    let bound = judged(alloc, circuit, admit, cube, steps)?;
+    Ok(bound)
 }

@@ -16,7 +16,6 @@ pub mod Lowered
 pub mod Bounding
 pub mod Sound
 pub mod Steps
-pub mod Leadings
 pub mod Walks
 pub mod Completing
 pub mod Stretches

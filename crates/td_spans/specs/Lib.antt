@@ -18,8 +18,6 @@ pub mod Hints
 pub mod Named
 pub mod Walking
 pub mod Stretching
-pub mod Naming
-pub mod Leading
 pub mod Refuting
 pub mod Opening
 pub mod States

@@ -38,23 +38,32 @@ fn is_nil(clause: &[Literal]) -> bool
 }
 
 impl Lemmas {
-    ghost use Rattle.std.specs.Prelude.{◌≡◌, ◌++◌, ◌∷◌, [], IfOk, IfErr, OnOk, OnErr};
+    ghost use Rattle.std.specs.Prelude.{◌≡◌, ◌+◌, ◌++◌, ◌∷◌, [], IfOk, IfErr, OnOk, OnErr};
     ghost use Rattle.td_spans.specs.declared.fault.Fault.TheVariants.{NotGood as IsNotGood};
     ghost use Rattle.td_propagation.specs.declared.clauses.Outcome.TheVariants.{Shown as IsShown};
     ghost use Rattle.td_spans.specs.Hints.{shown_at, clauses_of, variables_of};
 
-    /// No clauses, over this number of variables. The error is out of memory.
-    pub fn new(alloc: Global, variables: usize) -> Result<Lemmas, AllocError>
+    /// No clauses, and no variables. The error is out of memory.
+    pub fn new(alloc: Global) -> Result<Lemmas, AllocError>
         ensures none { IfOk result (λ lemmas. clauses_of lemmas ≡ []) }
-        ensures variables { IfOk result (λ lemmas. variables_of lemmas ≡ variables) }
+        ensures variables { IfOk result (λ lemmas. variables_of lemmas ≡ 0) }
     {
-        let clauses = Clauses::new(alloc, variables)?;
+        let clauses = Clauses::new(alloc, 0)?;
         Ok(Lemmas {
             clauses,
             count: 0,
             back: Vec::new(alloc),
             empty: false,
         })
+    }
+
+    /// Adds a variable. The error is out of memory, and then all is as before.
+    pub fn add_variable(&mut self) -> Result<(), AllocError>
+        ensures ok { OnOk result (variables_of self.new ≡ variables_of self.old + 1) }
+        ensures err { OnErr result (variables_of self.new ≡ variables_of self.old) }
+        ensures clauses { clauses_of self.new ≡ clauses_of self.old }
+    {
+        self.clauses.add_variable()
     }
 
     /// Whether hints show a clause.

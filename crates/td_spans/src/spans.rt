@@ -57,34 +57,47 @@ impl Spans {
     ghost use Rattle.td_spans.specs.Refuting.{Refutes};
     ghost use Rattle.td_spans.specs.Laws.{IsAsked};
 
-    /// The first times of all nets, and no clauses: what each run of an admitted pair meets. The
-    /// error is out of memory.
+    /// The first times of all nets, no variables and no clauses: what each run of an admitted pair
+    /// meets. The error is out of memory.
     pub fn new(
         alloc: Global,
         circuit: &Circuit,
         question: &Question,
         cube: &Cube,
-        variables: Vec<Variable>,
     ) -> Result<Spans, AllocError>
         requires held { length question.now.admit.held ≡ length circuit.now.netlist.inputs }
         requires cube { length cube.now ≡ 2 * length circuit.now.netlist.inputs }
-        ensures variables { IfOk result (λ spans. variables_in spans ≡ variables.items) }
+        ensures variables { IfOk result (λ spans. variables_in spans ≡ []) }
         ensures times { IfOk result (λ spans. times_in spans ≡ first_times circuit.now question.now.admit cube.now) }
         ensures clauses { IfOk result (λ spans. clauses_in spans ≡ []) }
-        ensures count { IfOk result (λ spans. count_in spans ≡ length variables.items) }
-        ensures sound { IfOk result (λ spans. Refutes circuit.now question.now cube.now (variables_in spans) (times_in spans) (clauses_in spans)) }
+        ensures count { IfOk result (λ spans. count_in spans ≡ 0) }
     {
         // For the prover: these calls say that the gates are in order, and that each input has a
         // moment.
         let _gates = circuit.gates();
         let _moments = circuit.moments();
         let times = first_times(alloc, circuit, question.admit(), cube)?;
-        let clauses = Lemmas::new(alloc, variables.len())?;
+        let clauses = Lemmas::new(alloc)?;
         Ok(Spans {
-            variables,
+            variables: Vec::new(alloc),
             times,
             clauses,
         })
+    }
+
+    /// Adds a variable. The error is out of memory, and then there are as many as before.
+    pub fn add_variable(&mut self, variable: Variable) -> Result<(), AllocError>
+        ensures variables { OnOk result (variables_in self.new ≡ variables_in self.old ++ variable ∷ []) }
+        ensures count { OnOk result (count_in self.new ≡ count_in self.old + 1) }
+        ensures same_variables { OnErr result (variables_in self.new ≡ variables_in self.old) }
+        ensures same_count { OnErr result (count_in self.new ≡ count_in self.old) }
+        ensures times { times_in self.new ≡ times_in self.old }
+        ensures clauses { clauses_in self.new ≡ clauses_in self.old }
+    {
+        self.variables.reserve(1)?;
+        self.clauses.add_variable()?;
+        self.variables.push_reserved(variable);
+        Ok(())
     }
 
     // Adds a clause for which there is a reason.

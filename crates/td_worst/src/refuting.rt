@@ -96,6 +96,7 @@ pub fn refuted_further(
     problem: &Problem<'_>,
     known: Answer,
     budget: u64,
+    work: u64,
     stop: &Stop,
 ) -> Answer
     requires some { 0 < budget }
@@ -121,6 +122,7 @@ pub fn refuted_further(
                 problem,
                 OpenAnswer { best, high, nodes },
                 budget,
+                work,
                 stop,
             )
         }
@@ -133,6 +135,7 @@ fn refute_open_answer(
     problem: &Problem<'_>,
     known: OpenAnswer,
     budget: u64,
+    work: u64,
     stop: &Stop,
 ) -> Answer
     requires some { 0 < budget }
@@ -148,7 +151,7 @@ fn refute_open_answer(
     let _moments = problem.circuit.moments();
     let _pins = problem.admit.pins();
     let mut known = known;
-    match search(alloc, problem, &mut known.best, budget, stop) {
+    match search(alloc, problem, &mut known.best, work, stop) {
         Ok(Some(refuted)) => known.refuted(alloc, &refuted, stop),
         Ok(None) => known.between(ending(stop)),
         Err(_) => known.between(Cause::Memory),
@@ -160,7 +163,7 @@ fn search(
     alloc: Global,
     problem: &Problem<'_>,
     best: &mut Timed,
-    budget: u64,
+    work: u64,
     stop: &Stop,
 ) -> Result<Option<Refuted>, AllocError>
     requires best { IsTimed (setting problem.now.circuit.now) problem.now.admit.now best.old }
@@ -170,7 +173,7 @@ fn search(
 {
     let mut scratch = Scratch::new(alloc, problem.circuit)?;
     let mut effort = Effort::until(stop);
-    effort.work = budget;
+    effort.work = work;
     refute(
         alloc,
         &mut scratch,

@@ -113,7 +113,7 @@ fn by_refutation<W: Watch, R: Threads + Wait + Sync>(
     if effort.budget == 0 {
         return Ok(known);
     }
-    Ok(refuted_further(alloc, &problem, known, effort.budget, stop))
+    Ok(refuted_further(alloc, &problem, known, effort.budget, effort.budget, stop))
 }
 
 // Searches a tree by `Least`, then one by `Lead`, then for a refutation, and then a larger tree by
@@ -142,11 +142,12 @@ fn by_all<W: Watch, R: Threads + Wait + Sync>(
     let budget = effort.budget;
     let first = nodes_of(circuit, FIRST, budget);
     let known = search(rt, alloc, &problem, &Own, with_nodes(limits, first), watch)?;
-    if budget == 0 || !is_open(&known) {
+    let left = budget - first;
+    if left == 0 || !is_open(&known) {
         return Ok(known);
     }
-    let left = budget - first;
-    let second = nodes_of(circuit, SECOND, left);
+    let second = nodes_of(circuit, SECOND, left / 2);
+    let last = nodes_of(circuit, LAST, (left - second) / 2);
     let known = led_further(
         rt,
         alloc,
@@ -156,11 +157,11 @@ fn by_all<W: Watch, R: Threads + Wait + Sync>(
         with_nodes(limits, second),
         watch,
     );
-    let known = refuted_further(alloc, &problem, known, budget, stop);
+    let work = left - second - last;
+    let known = refuted_further(alloc, &problem, known, budget, work, stop);
     if !is_open(&known) {
         return Ok(known);
     }
-    let last = nodes_of(circuit, LAST, left - second);
     let known = led_further(
         rt,
         alloc,

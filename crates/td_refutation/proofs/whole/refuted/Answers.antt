@@ -1,7 +1,10 @@
+use Rattle.std.proofs.Common.{map}
+use Rattle.td_circuit.specs.Numbering.{setting}
+use Rattle.td_refutation.specs.Whole.{step_of}
+use Rattle.td_refutation.proofs.Steps.{refuted_is_bounded}
 use Rattle.td_refutation.proofs.whole.refuted.Goals as goal
 
-pub loop-place-preserved : goal.loop-place-preserved
-loop-place-preserved c = c.step.ensures.sound c.args.admit.now c.requires.held c.loop-place.invariant
-
-pub returns : goal.returns
-returns c = c.bound.ensures.sound c.args.admit.now c.args.cube.now c.requires.cube c.loop-place.invariant
+pub returns-clause-bound : goal.returns-clause-bound
+returns-clause-bound c =
+    refuted_is_bounded (setting c.args.circuit.now) c.args.admit.now c.args.cube.now (map step_of c.args.steps.now) _ c.moments-moments.ensures.fit c.requires.held c.requires.cube
+    c.in_ok-bound.ensures.shown

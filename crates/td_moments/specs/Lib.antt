@@ -1,5 +1,0 @@
-pub mod Directions
-pub mod Moments
-pub mod Runs
-pub mod Merging
-pub mod Gates

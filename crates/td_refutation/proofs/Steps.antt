@@ -1,0 +1,85 @@
+-- Steps: good lines, one after another, keep what is true of the runs.
+use Rattle.std.proofs.Common.{◌≡◌, ℕ, ◌*◌, Bool, true, false, List, [], ◌∷◌, ◌++◌, length, refl, ap, subst, sym, ◌∙◌, arith}
+use Rattle.td_circuit.specs.Settings.{Setting, AreMoments}
+use Rattle.td_circuit.specs.Numbering.{Numbered, setting, IsNumbering}
+use Rattle.td_domain.specs.declared.cubes.Trit.{Trit}
+use Rattle.td_domain.specs.Admits.{Admitted}
+use Rattle.td_propagation.specs.declared.literal.Literal.{Literal}
+use Rattle.td_spans.specs.declared.times.Times.{Times}
+use Rattle.td_spans.specs.declared.variable.Variable.{Variable}
+use Rattle.td_spans.specs.Conditions.{Asked}
+use Rattle.td_spans.specs.Lowering.{latest_of}
+use Rattle.td_spans.specs.Signals.{first_times}
+use Rattle.td_spans.specs.Refuting.{Refutes}
+use Rattle.td_spans.specs.Laws.{IsAsked}
+use Rattle.td_spans.proofs.Steps.{first_refutes, steps_refute, refuted_bounds}
+use Rattle.td_refutation.specs.Doing.{State, first_state, IsGood, after, AreGood, state_to}
+use Rattle.td_refutation.specs.Lines.{Step, Deed, NoDeed, Having, Naming, Showing, Lowering, Retaking, deed_of}
+use Rattle.td_refutation.specs.Refuting.{IsUpperBoundOf, all_admitted}
+use Rattle.td_refutation.specs.Whole.{RefutedIsBounded}
+
+-- Before the first step the times are the first ones, and there are no clauses; always they are true
+-- of the runs.
+record IsKept (circuit : Numbered) (asked : Asked) (cube : List Trit) (state : State) : Type 0 where
+  times : state.begun ≡ false → state.times ≡ first_times circuit asked.admit cube
+  clauses : state.begun ≡ false → state.clauses ≡ []
+  refutes : Refutes circuit asked cube state.variables state.times state.clauses
+
+moved : (circuit : Numbered) (asked : Asked) (cube : List Trit) (variables : List Variable) (times times' : List Times) (clauses : List (List Literal)) → times' ≡ times → clauses ≡ []
+    → Refutes circuit asked cube variables times [] → Refutes circuit asked cube variables times' clauses
+moved circuit asked cube variables times times' clauses is none holds = rw (is, none) holds
+
+module _ (circuit : Numbered) (asked : Asked) (cube : List Trit) (fits : IsAsked circuit asked cube) where
+  kept_first : IsKept circuit asked cube (first_state circuit asked cube)
+  kept_first = record { times = λ same. refl; clauses = λ same. refl; refutes = first_refutes circuit asked cube [] fits }
+
+  kept_after : (state : State) (deed : Deed) → IsKept circuit asked cube state → IsGood circuit asked cube state deed → IsKept circuit asked cube (after circuit state deed)
+  kept_after state NoDeed kept good = absurd good
+  kept_after state (Having new) kept good = record {
+    times = kept.times;
+    clauses = kept.clauses;
+    refutes = moved circuit asked cube (state.variables ++ new ∷ []) (first_times circuit asked.admit cube) state.times state.clauses (kept.times good) (kept.clauses good)
+        (first_refutes circuit asked cube (state.variables ++ new ∷ []) fits);
+  }
+  kept_after state (Naming why clause) kept good = record {
+    times = λ no. absurd (let wrong : true ≡ false = no in cc);
+    clauses = λ no. absurd (let wrong : true ≡ false = no in cc);
+    refutes = steps_refute.named circuit asked cube state.variables fits state.times state.clauses kept.refutes why clause good;
+  }
+  kept_after state (Showing clause hints) kept good = record {
+    times = λ no. absurd (let wrong : true ≡ false = no in cc);
+    clauses = λ no. absurd (let wrong : true ≡ false = no in cc);
+    refutes = steps_refute.shown circuit asked cube state.variables fits state.times state.clauses kept.refutes (length state.variables) clause hints good.1;
+  }
+  kept_after state (Lowering net level place clause hints) kept good = record {
+    times = λ no. absurd (let wrong : true ≡ false = no in cc);
+    clauses = λ no. absurd (let wrong : true ≡ false = no in cc);
+    refutes = steps_refute.lowered circuit asked cube state.variables fits state.times state.clauses kept.refutes net level place (length state.variables) clause hints good.0 good.1 good.2;
+  }
+  kept_after state (Retaking net) kept good = record {
+    times = λ no. absurd (let wrong : true ≡ false = no in cc);
+    clauses = λ no. absurd (let wrong : true ≡ false = no in cc);
+    refutes = steps_refute.again circuit asked cube state.variables fits state.times state.clauses kept.refutes net good.0 good.1;
+  }
+
+  kept_to : (steps : List Step) (state : State) → AreGood circuit asked cube state steps → IsKept circuit asked cube state → IsKept circuit asked cube (state_to circuit state steps)
+  kept_to [] state good kept = kept
+  kept_to (step ∷ steps) state good kept =
+      kept_to steps (after circuit state (deed_of circuit step.kind step.numbers)) good.1 (kept_after state (deed_of circuit step.kind step.numbers) kept good.0)
+
+pub refuted_is_bounded : RefutedIsBounded
+refuted_is_bounded given admit cube steps bound fit helds count refuted =
+    let circuit : Numbered = refuted.circuit in
+    let asked : Asked = all_admitted admit in
+    let same : setting circuit ≡ given = refuted.of_setting.is in
+    let net_is : circuit.netlist ≡ given.netlist = ap (λ (s : Setting). s.netlist) same in
+    let moments_are : circuit.moments ≡ given.moments = ap (λ (s : Setting). s.moments) same in
+    let fits : IsAsked circuit asked cube =
+    record { numbering = refuted.of_setting.numbering; moments = rw (net_is, moments_are) fit; whole = rw net_is count; held = rw net_is helds } in
+    let last : State = state_to circuit (first_state circuit asked cube) steps in
+    let kept = kept_to circuit asked cube fits steps (first_state circuit asked cube) refuted.good (kept_first circuit asked cube fits) in
+    subst (λ (s : Setting). IsUpperBoundOf s admit cube bound) same
+    (λ pair delay admitted is_in is_delay.
+    let under = refuted_bounds circuit asked cube last.variables fits last.times last.clauses kept.refutes pair delay
+    (record { admitted = admitted; kept = λ before after_ one two i condition at. absurd (let none = at in cc) }) is_in is_delay in
+    omega (arith, under, refuted.within))

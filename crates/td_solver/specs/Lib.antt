@@ -1,3 +1,0 @@
-pub mod Lines
-pub mod Derivations
-pub mod Solvers
