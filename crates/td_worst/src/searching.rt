@@ -140,37 +140,24 @@ fn by_all<W: Watch, R: Threads + Wait + Sync>(
     };
     let Limits { effort, stop } = limits;
     let budget = effort.budget;
-    let first = nodes_of(circuit, FIRST, budget);
-    let known = search(rt, alloc, &problem, &Own, with_nodes(limits, first), watch)?;
-    let left = budget - first;
+    let nodes = nodes_of(circuit, FIRST, budget);
+    let first = with_nodes(limits, nodes);
+    let known = search(rt, alloc, &problem, &Own, first, watch)?;
+    let left = budget - nodes;
     if left == 0 || !is_open(&known) {
         return Ok(known);
     }
-    let second = nodes_of(circuit, SECOND, left / 2);
-    let last = nodes_of(circuit, LAST, (left - second) / 2);
-    let known = led_further(
-        rt,
-        alloc,
-        circuit,
-        admit,
-        known,
-        with_nodes(limits, second),
-        watch,
-    );
-    let work = left - second - last;
-    let known = refuted_further(alloc, &problem, known, budget, work, stop);
-    if !is_open(&known) {
-        return Ok(known);
+    let more = nodes_of(circuit, SECOND, left / 2);
+    let most = nodes_of(circuit, LAST, (left - more) / 2);
+    let second = with_nodes(limits, more);
+    let led = led_further(rt, alloc, circuit, admit, known, second, watch);
+    let work = left - more - most;
+    let shown = refuted_further(alloc, &problem, led, budget, work, stop);
+    if !is_open(&shown) {
+        return Ok(shown);
     }
-    let known = led_further(
-        rt,
-        alloc,
-        circuit,
-        admit,
-        known,
-        with_nodes(limits, last),
-        watch,
-    );
+    let last = with_nodes(limits, most);
+    let known = led_further(rt, alloc, circuit, admit, shown, last, watch);
     Ok(known)
 }
 
