@@ -122,7 +122,8 @@ fn show(
     ensures shown { IfOk result (λ found. IfSome found (IsShown (setting circuit.now) admit.now)) }
     ensures worst { IfOk result (λ found. IfSome found (λ refuted. refuted.bound ≤ best.now.time → IsWorst (setting circuit.now) admit.now best.now.time)) }
 {
-    match refuted(alloc, circuit, admit, admit.pins(), &steps) {
+    let pins = admit.pins();
+    match refuted(alloc, circuit, admit, pins, &steps) {
         Ok(bound) => Ok(Some(Refuted { bound, steps })),
         Err(Refusal::OutOfMemory) => Err(AllocError),
         Err(_) => Ok(None),
