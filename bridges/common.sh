@@ -97,7 +97,7 @@ cells() {
 checked() {
     checked_by=$1 checked_steps=$2
     shift 2
-    logged "$checked_by" "mend the source, or convert it by sv2v if it is SystemVerilog" yosys -p "
+    logged "$checked_by" "mend the source or TOP; sv2v converts SystemVerilog" yosys -p "
         $checked_steps; proc; check; write_json $checked_by.json"
     python3 "${here:?}/drivers.py" "$checked_by" "$checked_by.json" "$@" || exit 1
     rm -f "$checked_by.json"

@@ -43,7 +43,8 @@ python3 "$here/liberty.py" driver $liberty > "$out.constr"
 sizes=""
 [ ! -s "$out.constr" ] || sizes="-D 1000 -constr $out.constr"
 logged "$out.synth.log" "mend the source, or map it by another tool" yosys -p "
-    $read; synth -nofsm -top $top; simplemap; dfflibmap -liberty $liberty; abc $sizes -liberty $liberty
+    $read; synth -nofsm -top $top; simplemap; dfflibmap -liberty $liberty
+    abc $sizes -liberty $liberty
     setundef -zero; opt_clean -purge
     flatten; setundef -zero -undriven; opt_clean -purge; tee -o $out.unmapped dump t:\$*
     write_verilog -noattr $out.mapped.v"
