@@ -58,6 +58,9 @@ XORC v(.A(n),.B(c),.Y(y)); endmodule
 LOOP = """module t(a,b,y); input a,b; output y; wire n,m; NAND2 g(.A(a),.B(m),.Y(n));
 NAND2 h(.A(b),.B(n),.Y(m)); INV i(.A(n),.Y(y)); endmodule
 """
+LOOP_OF_OUTPUTS = """module t(a,b,y,z); input a,b; output y,z;
+NAND2 g(.A(a),.B(z),.Y(y)); NAND2 h(.A(b),.B(y),.Y(z)); endmodule
+"""
 CHAIN = """module t(a,b,s,y,z); input a,b,s; output y,z; MUX2 m0(.A(a),.B(b),.S(s),.Y(y));
 MUX2 m1(.A(b),.B(a),.S(s),.Y(z)); endmodule
 """
@@ -267,6 +270,8 @@ class Cases:
         words = ("from_liberty.sh", "case.v", "t", LIBRARY, "loop")
         remedy = self.refused("Loop", *words)
         self.run(*words, *re.search(r"(--cut-net \w+)", remedy)[1].split())
+        self.equal("case.v", "loop")
+        self.gates(LOOP_OF_OUTPUTS, "loop", "--cut-net", "y")
         self.equal("case.v", "loop")
         self.write("case.v", BOX)
         self.run("synth.sh", "case.v", "t", LIBRARY, "box")
