@@ -129,7 +129,7 @@ class Kinds:
 
 
 def work(tested):
-    """Cases: some designs of each sort, on a library."""
+    """A case for each sort: some designs, each on a library."""
     if not REAL:
         print("skipped: designs of each kind, as no real library is installed")
         return
@@ -139,7 +139,7 @@ def work(tested):
             fault = kinds.fault(name, tested.random.choice(REAL))
             if fault:
                 tested.fault(fault[:900])
-            tested.case("kind")
+        tested.case("kind")
 
 
 def all_of_them(folder):
