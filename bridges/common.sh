@@ -41,6 +41,8 @@ given() {
 
 # fresh "OUT .." FILE..: removes what an earlier run has made, which mustn't be one of the files.
 fresh() {
+    folder=$(dirname "${1%% *}")
+    [ -d "$folder" ] || refuse NoFolder "there is no folder $folder" "make it: mkdir -p $folder"
     apart "$@"
     # shellcheck disable=SC2086 # several files
     rm -f $1
@@ -95,7 +97,7 @@ cells() {
 checked() {
     checked_by=$1 checked_steps=$2
     shift 2
-    logged "$checked_by" "mend the source" yosys -p "
+    logged "$checked_by" "mend the source or TOP; sv2v converts SystemVerilog" yosys -p "
         $checked_steps; proc; check; write_json $checked_by.json"
     python3 "${here:?}/drivers.py" "$checked_by" "$checked_by.json" "$@" || exit 1
     rm -f "$checked_by.json"

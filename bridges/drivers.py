@@ -52,12 +52,36 @@ def findings(log: str, modules: dict) -> Iterator[Finding]:
         yield Finding(
             "NoDriver", f"{where}: {bare(net)} of {module} is read, and nothing drives it"
         )
+    for module in modules:
+        for name in modules[module]["cells"]:
+            yield from of_cell(modules, module, name)
+
+
+def of_cell(modules: dict, module: str, name: str) -> Iterator[Finding]:
+    """What yosys doesn't warn of: z of a primitive, as bufif1, and inputs of an instance that
+    nothing is connected to.
+    """
+    cell = modules[module]["cells"][name]
+    pins = cell["connections"]
+    if any("z" in bits for bits in pins.values()):
+        nets = modules[module]["netnames"].items()
+        driven = [net for net, it in nets if set(it["bits"]) & set(pins.get("Y", []))]
+        where = line_of(modules, module, min(driven, key=len)) if driven else source_of(cell)
+        yield Finding("HighZ", f"{where}: z, which no gate is")
+    for pin, port in modules.get(cell["type"], {"ports": {}})["ports"].items():
+        if port["direction"] == "input" and not pins.get(pin):
+            what = f"{pin} of {name}, a {cell['type']}"
+            yield Finding("NoDriver", f"{source_of(cell)}: nothing is connected to {what}")
 
 
 def line_of(modules: dict, module: str, net: str) -> str:
     """The line of the source that declares a net."""
     name = re.sub(r" \[\d+(?::\d+)?\]$", "", bare(net))
-    given = modules.get(module, {}).get("netnames", {}).get(name, {})
+    return source_of(modules.get(module, {}).get("netnames", {}).get(name, {}))
+
+
+def source_of(given: dict) -> str:
+    """The line of the source of a net or a cell."""
     src = given.get("attributes", {}).get("src", "")
     return re.sub(r"\.\d+-\d+\.\d+$", "", src) or "a line that yosys doesn't know"
 

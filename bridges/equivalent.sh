@@ -68,6 +68,8 @@ if [ -n "$cuts" ]; then
         exit 1
     gold="read_json $out.cut.json; hierarchy -top $top"
 fi
+# As synth.sh makes of nets without a driver.
+case $allow in *NoDriver*) gold="$gold; setundef -zero -undriven" ;; esac
 # Sums and products are joined as `synth` does, or the proof of a multiplier takes minutes.
 gold="$gold; opt_expr; opt_clean; wreduce; peepopt; opt_clean; alumacc; opt; memory; opt -full
     techmap; opt; $opened"
@@ -82,9 +84,16 @@ if [ "$way" = --cec ]; then
         read_verilog $out.gates.v; hierarchy -top $top; proc; $small; write_blif $out.gate.blif"
     berkeley-abc -q "cec -T 600 -C 1000000 $out.gold.blif $out.gate.blif" > "$log" 2>&1 || true
     rm -f "$out.gold.blif" "$out.gate.blif"
-    grep -q "Networks are equivalent" "$log" ||
+    if grep -q "Networks are equivalent" "$log"; then
+        echo "equal by yosys: $(grep -m 1 "Networks are equivalent" "$log")"
+    elif grep -q "NOT EQUIVALENT" "$log"; then
         refuse NotEquivalent "$(tail -n 2 "$log")" "look at $log"
-    echo "equal by yosys: $(grep -m 1 "Networks are equivalent" "$log")"
+    else
+        case $allow in
+        *TwoDrivers*) echo "not proved by yosys: a net has two drivers" ;;
+        *) refuse ToolFailed "berkeley-abc: $(tail -n 2 "$log")" "look at $log" ;;
+        esac
+    fi
 else
     states="async2sync; dffunmap; opt; splitnets"
     yosys -p "

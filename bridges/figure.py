@@ -162,11 +162,14 @@ class Figure:
         self.found["unit"] = self.head.step
         self.found["gates"] = int(re.search(r"^// ([\d,]+) gates", text, re.M)[1].replace(",", ""))
         if not asked.sdf:
-            arrival = re.search(
-                r"^\s*(-?[\d.]+)\s+data arrival time", text_of(f"{asked.out}.sta.log"), re.M
-            )
-            if arrival:
-                self.found["opensta_ps"] = round(float(arrival[1]) * library_unit(asked.liberty), 4)
+            said = text_of(f"{asked.out}.sta.log")
+            arrivals = re.findall(r"^\s*(-?[\d.]+)\s+data arrival time", said, re.M)
+            if self.head.clocks and not (asked.clock or asked.sdc):
+                note = "OpenSTA knows no clock, and its arrival no registers: --clock "
+                self.found["notes"].append(note + self.head.clocks[0])
+            if arrivals:
+                latest = max(map(float, arrivals)) * library_unit(asked.liberty)
+                self.found["opensta_ps"] = round(latest, 4)
 
     def equal(self):
         """That the gates do what the design does, by both readers."""
@@ -240,7 +243,7 @@ class Figure:
                     )
                 )
         run(["iverilog", "-g2012", "-gspecify", "-Tmax", "-s", "testbench", "-o", f"{out}.vvp",
-             *self.mapped.split(), fine, f"{out}.tb.v"])  # fmt: skip
+             fine, *self.mapped.split(), f"{out}.tb.v"])  # fmt: skip
         said = run(["vvp", "-n", f"{out}.vvp"]).stdout
         self.found["cells"] = max(
             map(int, re.findall(r"^pair 0 .* (-?\d+)$", said, re.M)), default=-1

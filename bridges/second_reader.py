@@ -36,6 +36,8 @@ class Sides(NamedTuple):
     inputs: List[Port]
     outputs: List[Port]
     registers: Dict[str, str]
+    # Whether a register takes its data when an input or a gate changes, and not at a clock alone.
+    raced: bool = False
 
     @property
     def cut_instances(self) -> List[str]:
@@ -68,27 +70,28 @@ def sides_of(head: Header, shell: str) -> Sides:
             continue
         for pin, net in re.findall(r"\.\\?(\S+?) ?\(([^()]*)\)", pins):
             registers.setdefault(name.lstrip("\\"), (kind.lstrip("\\"), {}))[1][pin] = net
-    states = {}
+    states, raced = {}, False
     wanted = {port.name for port in head.states}
     for name, (kind, pins) in registers.items():
+        raced = raced or not {net.strip().lstrip("\\") for net in pins.values()} & {*head.clocks}
         for net in pins.values():
             net = net.strip().lstrip("\\").replace(" ", "")
             if f"{net}.q" in wanted or net in wanted:
                 states[net[:-2] if net in wanted else net] = f"{kind} {name}"
-    return Sides(head, ports.inputs, ports.outputs, states)
+    return Sides(head, ports.inputs, ports.outputs, states, raced)
 
 
 class Bench:
     """The test bench that drives both sides with the same vectors."""
 
-    def __init__(self, sides: Sides, cells: str, vectors: List[str], unnamed=frozenset()):
+    def __init__(self, sides: Sides, reader: "Reader", vectors: List[str], unnamed=frozenset()):
         self.sides, self.vectors, self.unnamed = sides, vectors, unnamed
-        head = sides.head
+        head, self.folder = sides.head, reader.folder
         self.clocks = [port for port in sides.inputs if port.name in head.clocks]
         self.held = [port for port in sides.inputs if port.name in head.held]
         fixed = self.clocks + self.held
         self.driven = [port for port in sides.inputs if port not in fixed]
-        self.known = registers_in(cells)
+        self.known = registers_in(reader.cells)
 
     @property
     def bits(self) -> int:
@@ -100,8 +103,8 @@ class Bench:
         yield f"`timescale {step}/{step}"
         yield "module bench;"
         span = f"[{self.bits - 1}:0]"
-        yield f"reg {span} v; reg clock; reg {span} all [0:{len(self.vectors) - 1}];"
-        yield "integer k, seen, faults, unknown;"
+        yield f"reg {span} v, next; reg clock; reg {span} all [0:{len(self.vectors) - 1}];"
+        yield "integer k, b, seen, faults, unknown;"
         for number, port in enumerate(self.sides.outputs):
             yield f"wire [{width(port) - 1}:0] d{number}, g{number};"
         yield f"{spelled(self.sides.head.name)} own ({self.connections('d')});"
@@ -110,14 +113,25 @@ class Bench:
         yield from self.checks()
         yield from self.forces()
         yield "initial begin faults = 0; unknown = 0; seen = 0; clock = 0;"
-        yield '$readmemb("vectors.txt", all); v = all[0];'
+        yield f'$readmemb("{self.folder}/vectors.txt", all); v = all[0];'
         yield f"cut; #{SETTLED};"
         yield from self.deposits()
         yield f"for (k = 0; k < {len(self.vectors)}; k = k + 1) begin"
-        yield f"v = all[k]; cut; #{SETTLED}; look;"
+        yield from self.inputs_change()
+        yield f"cut; #{SETTLED}; look;"
         if self.clocks:
             yield f"clock = 1; cut; #{SETTLED}; look; clock = 0; cut; #{SETTLED}; look;"
         yield 'end $display("done %0d %0d %0d", seen, unknown, faults); $finish; end endmodule'
+
+    def inputs_change(self) -> Iterator[str]:
+        """The next vector: bit by bit where registers are clocked by gates, since a clock and what
+        is taken at it don't change at once.
+        """
+        if not self.sides.raced:
+            yield "v = all[k];"
+            return
+        yield f"next = all[k]; for (b = 0; b < {self.bits}; b = b + 1) if (v[b] !== next[b]) begin"
+        yield f"v[b] = next[b]; cut; #{SETTLED}; end"
 
     def bit_range(self, port: Port) -> str:
         """The part of the vector that an input takes."""
@@ -152,7 +166,8 @@ class Bench:
         yield "task look; begin"
         for number, port in enumerate(self.sides.outputs):
             net = self.sides.cut(port)
-            if net == "":
+            # An output that is a net that is cut has the forced level in the design.
+            if net == "" or port.name in {it.partition("[")[0] for it in self.sides.cut_nets}:
                 continue
             mine = net or f"d{number}"
             yield f"seen = seen + 1; if ((^{mine}) === 1'bx) unknown = unknown + 1;"
@@ -182,8 +197,8 @@ def registers_in(cells: str) -> Dict[str, str]:
     return found
 
 
-def run(words: List[str], folder: str) -> subprocess.CompletedProcess:
-    return subprocess.run(words, cwd=folder, capture_output=True, text=True, errors="replace")
+def run(words: List[str]) -> subprocess.CompletedProcess:
+    return subprocess.run(words, capture_output=True, text=True, errors="replace")
 
 
 def vectors_of(bits: int, states: bool, asked) -> List[str]:
@@ -219,23 +234,28 @@ class Reader:
             # Levels alone are compared: without delays a multiplier has few glitches.
             gates = re.sub(r"^(\w+) #\(\d+,\d+\) ", r"\1 ", gates, flags=re.M)
         step = self.sides.head.step
-        self.write("gates.v", f"`timescale {step}/{step}\n{gates}{shell}")
+        # What the design says of its own steps and nets holds for its own files alone.
+        self.write("ahead.v", f"`timescale {step}/{step}\n")
+        head = f"`default_nettype wire\n`timescale {step}/{step}\n"
+        self.write("gates.v", f"{head}{gates}{shell}")
+
+    def path(self, name: str) -> str:
+        return os.path.join(self.folder, name)
 
     def write(self, name: str, text: str):
-        with open(os.path.join(self.folder, name), "w", errors="surrogateescape") as file:
+        with open(self.path(name), "w", errors="surrogateescape") as file:
             file.write(text)
 
     def compiled(self, bench: Bench) -> subprocess.CompletedProcess:
-        """The bench with both sides, as Icarus compiles it."""
+        """The bench with both sides, as Icarus compiles it where the design's files are named."""
         self.write("bench.v", "\n".join(bench.lines()) + "\n")
         self.write("vectors.txt", "\n".join(bench.vectors) + "\n")
         options = [word for word in self.asked.design if word.startswith("-")]
-        files = [os.path.abspath(it) for it in self.asked.design if not it.startswith("-")]
-        options = [f"-I{os.path.abspath(it[2:])}" if it.startswith("-I") else it for it in options]
-        own = [os.path.abspath(self.asked.cells), os.path.abspath(self.asked.simcells)]
-        models = [path for path in own if os.path.getsize(path)]
-        words = ["iverilog", "-g2012", "-s", "bench", "-o", "bench.vvp", *options, *files]
-        return run([*words, *models, "gates.v", "bench.v"], self.folder)
+        files = [word for word in self.asked.design if not word.startswith("-")]
+        models = [it for it in (self.asked.cells, self.asked.simcells) if os.path.getsize(it)]
+        words = ["iverilog", "-g2012", "-grelative-include", "-s", "bench"]
+        words += ["-o", self.path("bench.vvp"), *options, self.path("ahead.v"), *files]
+        return run([*words, self.path("gates.v"), *models, self.path("bench.v")])
 
     def read(self) -> str:
         """What was compared, or why it couldn't be."""
@@ -245,18 +265,18 @@ class Reader:
         fixed = {*sides.head.clocks, *sides.head.held}
         bits = max(1, sum(width(port) for port in sides.inputs if port.name not in fixed))
         vectors = vectors_of(bits, bool(sides.registers), self.asked)
-        bench = Bench(sides, self.cells, vectors)
+        bench = Bench(sides, self, vectors)
         done = self.compiled(bench)
         if done.returncode and sides.registers:
-            bench = Bench(sides, self.cells, vectors, self.unnamed(bench, done.stderr))
+            bench = Bench(sides, self, vectors, self.unnamed(bench, done.stderr))
             done = self.compiled(bench)
             if done.returncode:
-                bench = Bench(sides, self.cells, vectors, frozenset(sides.registers))
+                bench = Bench(sides, self, vectors, frozenset(sides.registers))
                 done = self.compiled(bench)
         if done.returncode:
             said = (done.stderr.strip().splitlines() or ["nothing"])[0]
             return f"proved by one reader alone: Icarus can't read it: {said}"
-        return self.judged(bench, run(["vvp", "-n", "bench.vvp"], self.folder).stdout)
+        return self.judged(bench, run(["vvp", "-n", self.path("bench.vvp")]).stdout)
 
     def unnamed(self, bench: Bench, said: str) -> frozenset:
         """The registers whose names Icarus doesn't know."""
@@ -289,7 +309,8 @@ class Reader:
             raise Refusal(
                 "NotEquivalent",
                 f"Icarus: the gates do other than the design: {first_of(said)}",
-                "look what the synthesis made of it",
+                "complete the source's lists of events, as @*; else look at the mapped netlist, "
+                "from which --netlist goes on",
             )
         more = f", {unknown} of {seen} outputs unknown" if unknown else ""
         if bench.unnamed:

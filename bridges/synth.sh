@@ -43,14 +43,17 @@ python3 "$here/liberty.py" driver $liberty > "$out.constr"
 sizes=""
 [ ! -s "$out.constr" ] || sizes="-D 1000 -constr $out.constr"
 logged "$out.synth.log" "mend the source, or map it by another tool" yosys -p "
-    $read; synth -nofsm -top $top; dfflibmap -liberty $liberty; abc $sizes -liberty $liberty
+    $read; synth -nofsm -top $top; simplemap; dfflibmap -liberty $liberty
+    abc $sizes -liberty $liberty
     setundef -zero; opt_clean -purge
-    flatten; opt_clean -purge; tee -o $out.unmapped select -list t:\$*
+    flatten; setundef -zero -undriven; opt_clean -purge; tee -o $out.unmapped dump t:\$*
     write_verilog -noattr $out.mapped.v"
 rm -f "$out.constr"
-if grep -q / "$out.unmapped"; then
+unmapped=$(sed -n 's/^ *cell \([^ ]*\) .*/\1/p; s/^ *connect .[QY] .\(.*\)/\1/p' "$out.unmapped" |
+    paste -s -d '\t\n' | sed 's/\t/ of /; s/ \[/[/' | head -n 3)
+if [ -n "$unmapped" ]; then
     rm -f "$out.mapped.v"
-    refuse UnmappedCells "the library has no cells for $(head -n 3 "$out.unmapped" | xargs)" \
+    refuse UnmappedCells "the library has no cells for $(echo "$unmapped" | paste -s -d ,)" \
         "instantiate a cell of the library there, as for latches, or take a library that has them"
 fi
 ! grep -q '^module' "$out.boxes.v" || cat "$out.boxes.v" >> "$out.mapped.v"

@@ -14,24 +14,25 @@ has to reach the outputs when the arcs of the SDF file add up to it.
 refusal has to come by its name, and its remedy has to work. Cases of a designer's own (RTL of which
 yosys drops something, constraints, latches and other state, cuts, SDF files, short delays, the one
 command) stand in bridging/cases.py, small designs on each library that is installed in
-bridging/blocks.v. RTL with registers is synthesised and proved, .bench and BLIF are
-read, a multiplier of 32 by 32 bits is written within 10 seconds of a processor, the commands of
+bridging/blocks.v, designs of each kind of RTL, with what is refused and its remedy, in
+bridging/kinds.v. RTL with registers is synthesised and proved, .bench and BLIF are read, a multiplier of 32 by 32 bits is written within 10 seconds of a processor, the commands of
 docs/FROM-RTL.md do what that page says, and examples/from_rtl/ comes out as it is kept. It needs
 `yosys`, `sta` (OpenSTA), `iverilog` and `vvp`.
 """
 
+import os
 import re
 import sys
 from collections import namedtuple
 from itertools import product
 
-from bridging import blocks, cases, designs, icarus, ideal, refusals
+from bridging import blocks, cases, designs, icarus, ideal, kinds, refusals
 from bridging.cells import CELLS, STEPS, Sdf, unescaped, whole
 from bridging.made import paths, tree, web
 from bridging.tools import LIBRARY, read, script, write, yosys
 from lib import check, places
 
-CASES = 230
+CASES = 234
 # Random netlists that come before all else: whether they have registers.
 FIRST = (False, True)
 PAIRS = 40
@@ -364,6 +365,7 @@ def work(tested):
     """A program that can't be right fails at once; then come some random netlists, so that few
     cases have of each kind, then what stands in lists, and random netlists until the end.
     """
+    os.environ["TDELAY"] = os.path.abspath(tested.program)
     if designs.exact(tested, places.example("c17.v")) != 3:
         tested.fault("the worst delay of examples/c17.v isn't 3")
         return
@@ -374,6 +376,7 @@ def work(tested):
     blocks.work(tested)
     designs.work(tested)
     plants(tested)
+    kinds.work(tested)
     while tested.goes_on():
         random_netlist(tested, tested.random.random() < 0.3)
 
@@ -397,6 +400,7 @@ def shares(tested, cut):
         "plant exchanged",
         "plant swapped",
         "plant dropped",
+        *["kind"] * bool(blocks.REAL),
     ):
         tested.require(kind, 0)
     if tested.most is None or tested.most >= 3 * CASES:

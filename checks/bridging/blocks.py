@@ -6,8 +6,15 @@ from typing import NamedTuple
 
 from .tools import LIBRARY, script, write
 
-with open(os.path.join(os.path.dirname(__file__), "blocks.v"), encoding="utf-8") as FILE:
-    BLOCKS = dict(re.findall(r"^// block (\w+)\n((?:(?!// block).*\n)*)", FILE.read(), re.M))
+
+
+def blocks_of(name):
+    """The designs of a file of this folder, by the name in the line above each."""
+    with open(os.path.join(os.path.dirname(__file__), name), encoding="utf-8") as file:
+        return dict(re.findall(r"^// block (\w+)\n((?:(?!// block).*\n)*)", file.read(), re.M))
+
+
+BLOCKS = blocks_of("blocks.v")
 TECHNOLOGIES = "/usr/share/qflow/tech"
 
 

@@ -6,7 +6,7 @@ import re
 
 from . import library_of_cases
 from .blocks import BLOCKS, REAL
-from .designs import exact
+from .designs import VERSIONS, exact, versions
 from .icarus import IVERILOG, VVP
 from .tools import LIBRARY, read, script, tool, write
 
@@ -14,7 +14,11 @@ SILENT = {
     "TwoDrivers": "module t(input a,b,c, output y); wire n;\nassign n=a&b; assign n=b|c;\n"
     "assign y=~n; endmodule\n",
     "HighZ": "module t(input a,b,s, output y);\nassign y = s ? (a&b) : 1'bz; endmodule\n",
+    "HighZ of a gate": "module t(input a,b, output y);\nwire n; bufif1 (n,a,b); not (y,n);\n"
+    "endmodule\n",
     "NoDriver": "module t(input a,b, output y);\nwire n; assign y=a&n; endmodule\n",
+    "NoDriver of a pin": "module t(input a, output y);\nlow s(.p(a),.q(y)); endmodule\n"
+    "module low(input p,r, output q); assign q=p^r; endmodule\n",
     "ImplicitNet": "interface bus; logic [3:0] d; modport src(output d); endinterface\n"
     "module prod(input logic [3:0] a, bus.src o); assign o.d=a+4'd1; endmodule\n"
     "module t(input logic [3:0] a, output logic [3:0] y); bus b(); prod p(a,b); assign y=b.d;\n"
@@ -54,9 +58,26 @@ XORC v(.A(n),.B(c),.Y(y)); endmodule
 LOOP = """module t(a,b,y); input a,b; output y; wire n,m; NAND2 g(.A(a),.B(m),.Y(n));
 NAND2 h(.A(b),.B(n),.Y(m)); INV i(.A(n),.Y(y)); endmodule
 """
+LOOP_OF_OUTPUTS = """module t(a,b,y,z); input a,b; output y,z;
+NAND2 g(.A(a),.B(z),.Y(y)); NAND2 h(.A(b),.B(y),.Y(z)); endmodule
+"""
 CHAIN = """module t(a,b,s,y,z); input a,b,s; output y,z; MUX2 m0(.A(a),.B(b),.S(s),.Y(y));
 MUX2 m1(.A(b),.B(a),.S(s),.Y(z)); endmodule
 """
+# What a reader needs of the source that yosys passes over: its own default of nets, delays without
+# a scale, a file of levels, a clock that gates make.
+SOURCE = (
+    "`default_nettype none\nmodule t(input wire [3:0] a, output wire [7:0] y);\n"
+    "reg [7:0] m [0:15]; initial $readmemh(\"levels.hex\", m); wire [7:0] #2 n = m[a];\n"
+    "assign y = n + 8'd1; endmodule\n",
+    "module t(input clk,en, input [2:0] d, output reg [2:0] q);\n"
+    "wire g = clk & en; always @(posedge g) q <= d + q; endmodule\n",
+)
+RESET = """module t(input clk,rst_n,d, output reg [1:0] q);
+always @(posedge clk or negedge rst_n) if (!rst_n) q <= 0; else q <= {q[0]^q[1],d}; endmodule
+"""
+# The exact figure of rot4 with two inputs pinned, and the last change of its pair on the cells.
+PINNED = 711, 778
 BOX = """(* blackbox *) module ram(input [1:0] a, output [1:0] q); endmodule
 module t(input [1:0] x, input s, output [1:0] y); wire [1:0] q; ram r(.a(x ^ {2{s}}), .q(q));
 assign y = q & x; endmodule
@@ -110,14 +131,13 @@ class Cases:
 
     def silent(self):
         """What yosys drops is refused with its line, and --allow goes on."""
-        for name, text in SILENT.items():
+        for what, text in SILENT.items():
             self.write("case.v", text)
-            line = "case.v:2"
             ended = script(self.tested.folder, "synth.sh", "case.v", "t", LIBRARY, "silent")
-            self.same(f"{name} with its line: {ended.err}", True, f"{name}: {line}" in ended.err)
-            remedy = self.refused(name, "synth.sh", "case.v", "t", LIBRARY, "silent")
-            allow = re.search(r"--allow (\w+)", remedy)
-            self.same(f"the remedy of {name}", name, allow and allow[1])
+            name = what.split()[0]
+            told = rf"{name}: case.v:2: .*\n  what to do: .*; --allow {name} goes on"
+            found = ended.status == 1 and bool(re.search(told, ended.err))
+            self.same(f"{what} with its line and its remedy: {ended}", True, found)
         self.write("case.v", SILENT["ImplicitNet"])
         allow = ("--allow", "ImplicitNet", "--allow", "NoDriver")
         self.run("synth.sh", "case.v", "t", LIBRARY, "silent", *allow)
@@ -129,6 +149,46 @@ class Cases:
         self.run("from_liberty.sh", "silent.mapped.v", "t", LIBRARY, "silent")
         words = ("--allow", "NoDriver", "case.v", "t", LIBRARY, "silent")
         self.refused("UnknownLevel", "equivalent.sh", *words)
+
+    def source(self):
+        """The second reader reads what the design reads, waits until it is settled, and changes no
+        clock and what is taken at it at once.
+        """
+        self.write("levels.hex", "".join(f"{17 * it:02x}\n" for it in range(16)))
+        for text in (*SOURCE, BLOCKS["cskip16"].replace("cskip16", "t")):
+            self.write("case.v", text)
+            self.run("synth.sh", "case.v", "t", LIBRARY, "read")
+            self.run("from_liberty.sh", "read.mapped.v", "t", LIBRARY, "read")
+            self.equal("case.v", "read")
+        self.refused("NoFolder", "synth.sh", "case.v", "t", LIBRARY, "nowhere/read")
+
+    def allowed(self):
+        """What is allowed goes on to the end: 0 on a pin that nothing drives, no proof of a net with
+        two drivers.
+        """
+        self.write("case.v", SILENT["NoDriver of a pin"])
+        allow = ("--allow", "NoDriver")
+        self.run("synth.sh", "case.v", "t", LIBRARY, "silent", *allow)
+        self.run("from_liberty.sh", "silent.mapped.v", "t", LIBRARY, "silent")
+        self.equal("case.v", "silent", *allow, "--allow", "UnknownLevel")
+        self.write("case.v", SILENT["TwoDrivers"])
+        allow = ("--allow", "TwoDrivers")
+        self.run("synth.sh", "case.v", "t", LIBRARY, "silent", *allow)
+        self.run("from_liberty.sh", "silent.mapped.v", "t", LIBRARY, "silent")
+        allow += ("--allow", "UnknownLevel")
+        said = self.run("equivalent.sh", *allow, "case.v", "t", LIBRARY, "silent").out
+        self.same(f"two drivers that are allowed: {said}", True, "not proved by yosys" in said)
+
+    def clocks(self):
+        """OpenSTA's arrival is the latest of its groups; a clock that it doesn't know is told."""
+        self.write("case.v", RESET)
+        words = ("case.v", "t", LIBRARY, "clocked", "--json")
+        found = json.loads(self.run("figure.sh", *words, "--clock", "clk").out or "{}")
+        wanted = found.get("exact", 0)
+        near = abs(found.get("opensta_ps", 0) - wanted) < 0.2 * wanted
+        other = json.loads(self.run("figure.sh", *words).out or "{}")
+        told = any("--clock clk" in note for note in other.get("notes", []))
+        self.same(f"clocks of OpenSTA: {found} {other}", (True, True), (near, told))
 
     def constraints(self):
         """An input's moment and level of an SDC file are options of tdelay."""
@@ -157,8 +217,6 @@ class Cases:
             self.write("case.sdc", f"{SDC}{line}\n")
             remedy = self.refused(name, *words)
             self.same(f"a remedy of {name}", True, bool(remedy))
-        self.write("case.sdc", SDC)
-        self.run(*words)
 
     def short(self):
         """Negative and short delays are raised, or refused."""
@@ -215,6 +273,8 @@ class Cases:
         words = ("from_liberty.sh", "case.v", "t", LIBRARY, "loop")
         remedy = self.refused("Loop", *words)
         self.run(*words, *re.search(r"(--cut-net \w+)", remedy)[1].split())
+        self.equal("case.v", "loop")
+        self.gates(LOOP_OF_OUTPUTS, "loop", "--cut-net", "y")
         self.equal("case.v", "loop")
         self.write("case.v", BOX)
         self.run("synth.sh", "case.v", "t", LIBRARY, "box")
@@ -320,10 +380,13 @@ class Cases:
             return
         self.write("rot4.v", BLOCKS["rot4"])
         words = ("rot4.v", "rot4", REAL[0].liberty, "rotated", "--models", REAL[0].models, "--json")
+        told = json.loads(self.run("figure.sh", *words).out or "{}")
+        self.same(f"cells beside gates: {told}", True, isinstance(told.get("cells"), int))
         pins = ("--pin", "d[2]=1", "--pin", "l=0")
-        for more in ((), pins):
-            told = json.loads(self.run("figure.sh", *words, *more).out or "{}")
-            self.same(f"cells beside gates: {told}", True, isinstance(told.get("cells"), int))
+        told = json.loads(self.run("figure.sh", *words, *pins).out or "{}")
+        found = told.get("exact"), told.get("cells")
+        wanted = PINNED if versions() == VERSIONS else found
+        self.same("a pinned question on gates and on cells", wanted, found)
 
     def pairs(self):
         """The pair of the report on RTL and on gates, by Icarus."""
@@ -358,3 +421,6 @@ def work(tested):
     cases.annotation()
     cases.same_files()
     cases.figure()
+    cases.source()
+    cases.allowed()
+    cases.clocks()

@@ -350,7 +350,7 @@ for. Four inputs that no gate reads make it long.
   > buf #1 p1(p,b); buf #1 p2(q,b); xor #3 g1(y,a,p,q);
   > endmodule
   > END
-  $ tdelay worst long.v --budget=6000 --progress 2>&1 > report | sed 's/ seconds [0-9]* rate [0-9]*$/ ../'
+  $ tdelay worst long.v --strategy=least --budget=6000 --progress 2>&1 > report | sed 's/ seconds [0-9]* rate [0-9]*$/ ../'
   nodes 1026 low 3 high 4 open 3 ..
   nodes 2049 low 3 high 4 open 2 ..
   nodes 5058 low 3 high 4 open 3 ..
@@ -362,7 +362,7 @@ for. Four inputs that no gate reads make it long.
   from 000000
   to 111111
   nodes 6000
-  $ tdelay worst long.v --budget=6000 --progress 2> told
+  $ tdelay worst long.v --strategy=least --budget=6000 --progress 2> told
   unit 1 ns
   defaulted 0
   between 3 4
@@ -371,7 +371,7 @@ for. Four inputs that no gate reads make it long.
   to 111111
   nodes 6000
   [3]
-  $ tdelay worst long.v --budget=6000
+  $ tdelay worst long.v --strategy=least --budget=6000
   unit 1 ns
   defaulted 0
   between 3 4

@@ -551,65 +551,60 @@ Each verdict but for `Accepted`.
     help: the certificate is wrong: search again
   [4]
 
-Each reason for the verdict `BadStep` but for a moment above 10^18, which no text has that is read.
+Each reason for the verdict `BadStep`.
 
   $ printf 'module t(a, y); input a; output y; buf #1 p(b,a); and #(1,4) g(y,a,b); endmodule\n' > early.v
   $ tdelay check inverter.v <(cat head tail) --hints
   accepted 3
-  $ bash hint.sh early.v 'tdelay-cert 5/circuit 1 2/first ./second ./hold ./flips 1/at 0/time 4/from 1/to 0/r/h 1 5 0/q 5/'
+  $ bash hint.sh early.v 'tdelay-cert 5/circuit 1 2/first ./second ./hold ./flips 1/at 0/time 4/from 1/to 0/x/f 2 0/q 5/'
   refused 10 BadStep line 12
-  c:12: a step with too few numbers, or too many
+  c:12: a line with too few numbers, too many, or one that is out of range
     help: check it with the netlist, the default delays and the --output that it was made for; else make it again
   [4]
-  $ bash hint.sh early.v 'tdelay-cert 5/circuit 1 2/first ./second ./hold ./flips 1/at 0/time 4/from 1/to 0/r/h 2 5 0 4/q 5/'
+  $ bash hint.sh early.v 'tdelay-cert 5/circuit 1 2/first ./second ./hold ./flips 1/at 0/time 4/from 1/to 0/x/f 5/q 5/'
   refused 10 BadStep line 12
-  c:12: a step names a gate that doesn't exist
+  c:12: a line with too few numbers, too many, or one that is out of range
     help: check it with the netlist, the default delays and the --output that it was made for; else make it again
   [4]
-  $ bash hint.sh early.v 'tdelay-cert 5/circuit 1 2/first ./second ./hold ./flips 1/at 0/time 4/from 1/to 0/r/o 5 0 0 1/q 5/'
+  $ bash hint.sh early.v 'tdelay-cert 5/circuit 1 2/first ./second ./hold ./flips 1/at 0/time 4/from 1/to 0/x/w 4 0 2 1/q 5/'
   refused 10 BadStep line 12
-  c:12: a step names a net that doesn't exist
+  c:12: a line with too few numbers, too many, or one that is out of range
     help: check it with the netlist, the default delays and the --output that it was made for; else make it again
   [4]
-  $ bash hint.sh early.v 'tdelay-cert 5/circuit 1 2/first ./second ./hold ./flips 1/at 0/time 4/from 1/to 0/r/h 1 5 2 4/q 5/'
+  $ bash hint.sh early.v 'tdelay-cert 5/circuit 1 2/first ./second ./hold ./flips 1/at 0/time 4/from 1/to 0/x/c 2 0/q 5/'
   refused 10 BadStep line 12
-  c:12: a step with a level above 1, or a trit above 2
+  c:12: a line with too few numbers, too many, or one that is out of range
     help: check it with the netlist, the default delays and the --output that it was made for; else make it again
   [4]
-  $ bash hint.sh early.v 'tdelay-cert 5/circuit 1 2/first ./second ./hold ./flips 1/at 0/time 4/from 1/to 0/r/h 1 1000000000000000000 0 4/q 5/'
-  refused 4 LeafAboveTime line 13
-  c:13: a leaf's number is greater than the certificate's time
-    help: the certificate is wrong: search again
-  [4]
-  $ bash hint.sh early.v 'tdelay-cert 5/circuit 1 2/first ./second ./hold ./flips 1/at 0/time 4/from 1/to 0/r/t 1 1 1 2/q 5/'
+  $ bash hint.sh early.v 'tdelay-cert 5/circuit 1 2/first ./second ./hold ./flips 1/at 0/time 4/from 1/to 0/x/e 4 2 5 0/q 5/'
   refused 10 BadStep line 12
-  c:12: a step whose name stands for no clause
+  c:12: a line with too few numbers, too many, or one that is out of range
     help: check it with the netlist, the default delays and the --output that it was made for; else make it again
   [4]
-  $ bash hint.sh early.v 'tdelay-cert 5/circuit 1 2/first ./second ./hold ./flips 1/at 0/time 4/from 1/to 0/r/l 1 9 9 1/q 5/'
-  refused 10 BadStep line 12
-  c:12: a step names a literal of a variable that doesn't exist
+  $ bash hint.sh early.v 'tdelay-cert 5/circuit 1 2/first ./second ./hold ./flips 1/at 0/time 4/from 1/to 0/x/f 2/r 4/f 3/q 5/'
+  refused 10 BadStep line 14
+  c:14: a variable after a step
     help: check it with the netlist, the default delays and the --output that it was made for; else make it again
   [4]
-  $ bash hint.sh early.v 'tdelay-cert 5/circuit 1 2/first ./second ./hold ./flips 1/at 0/time 4/from 1/to 0/r/h 1 5 0 4/l 1 9 1 2/q 5/'
+  $ bash hint.sh early.v 'tdelay-cert 5/circuit 1 2/first ./second ./hold ./flips 1/at 0/time 4/from 1/to 0/x/f 2/g 0/q 5/'
   refused 10 BadStep line 13
-  c:13: a step names a clause that doesn't exist
+  c:13: a step that doesn't hold of this circuit
     help: check it with the netlist, the default delays and the --output that it was made for; else make it again
   [4]
-  $ bash hint.sh early.v 'tdelay-cert 5/circuit 1 2/first ./second ./hold ./flips 1/at 0/time 4/from 1/to 0/r/h 1 5 0 4/l 1 9 1 1/q 5/'
+  $ bash hint.sh early.v 'tdelay-cert 5/circuit 1 2/first ./second ./hold ./flips 1/at 0/time 4/from 1/to 0/x/f 2/u 0/q 5/'
   refused 10 BadStep line 13
-  c:13: a step in which the clause of a hint has several literals left
+  c:13: a step that doesn't hold of this circuit
     help: check it with the netlist, the default delays and the --output that it was made for; else make it again
   [4]
-  $ bash hint.sh early.v 'tdelay-cert 5/circuit 1 2/first ./second ./hold ./flips 1/at 0/time 4/from 1/to 0/r/l 0/q 5/'
-  refused 10 BadStep line 12
-  c:12: a step whose hints end without a clause that is false
+  $ bash hint.sh early.v 'tdelay-cert 5/circuit 1 2/first ./second ./hold ./flips 1/at 0/time 4/from 1/to 0/x/f 2/u 0 1/l 1 0 1/q 5/'
+  refused 10 BadStep line 14
+  c:14: a step that doesn't hold of this circuit
     help: check it with the netlist, the default delays and the --output that it was made for; else make it again
   [4]
-  $ bash hint.sh early.v 'tdelay-cert 5/circuit 1 2/first ./second ./hold ./flips 1/at 0/time 4/from 1/to 0/r/c 4 3 0 1/q 5/'
-  refused 10 BadStep line 12
-  c:12: a step that cuts off a change which isn't possible any more
-    help: check it with the netlist, the default delays and the --output that it was made for; else make it again
+  $ bash hint.sh early.v 'tdelay-cert 5/circuit 1 2/first ./second ./hold ./flips 1/at 0/time 4/from 1/to 0/x/q 3/'
+  refused 3 LeafBound line 12
+  c:12: a leaf's number is less than the bound of its cube, or isn't the delay of its pair
+    help: check it with the netlist, the default delays and the --output of its search; else search again
   [4]
 
 Each reason why certificates aren't joined.

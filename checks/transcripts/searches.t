@@ -57,7 +57,7 @@ No inputs, and nothing at all.
 Budgets: none, one node, as many as the tree has, and one that suffices.
 
   $ bash netlist 'not #1 (n,a); and #2 (y,a,n);' a y
-  > for budget in 0 1 6 7; do bash search --budget $budget | cut -d, -f1; done
+  > for budget in 0 1 6 7; do bash search --strategy least --budget $budget | cut -d, -f1; done
   between 0 3 cause budget from 0 to 1 nodes 0
   between 0 3 cause budget from 0 to 1 nodes 1
   between 0 3 cause budget from 0 to 1 nodes 6
@@ -67,7 +67,7 @@ Budgets: none, one node, as many as the tree has, and one that suffices.
 
 The upper bound falls once no open cube has the root's.
 
-  $ bash netlist 'or #(3,2) (p,a,c); nand #1 (q,b,p); nor #3 (y,q,b);' a,b,c y; bash search --budget 0; bash search --budget 25
+  $ bash netlist 'or #(3,2) (p,a,c); nand #1 (q,b,p); nor #3 (y,q,b);' a,b,c y; bash search --budget 0; bash search --strategy least --budget 25
   between 0 7 cause budget from 000 to 111 nodes 0
   between 0 4 cause budget from 000 to 111 nodes 25
 

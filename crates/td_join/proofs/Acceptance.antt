@@ -11,8 +11,6 @@ use Rattle.td_domain.specs.Pairs.{Pair}
 use Rattle.td_domain.specs.Cubes.{IsIn}
 use Rattle.td_domain.specs.Admits.{Admitted, AreHeld, flips_of, IsAdmitted, HasAdmitted}
 use Rattle.td_domain.proofs.Lists.{all_append, all_parts}
-use Rattle.td_refutation.specs.Whole.{IsRefuted}
-use Rattle.td_certificate.specs.Steps.{Refuted}
 use Rattle.td_certificate.specs.declared.tree.Node.{Node}
 use Rattle.td_certificate.specs.declared.tree.Node.TheVariants as node
 use Rattle.td_certificate.specs.declared.certificate.Certificate.{Certificate}
@@ -24,24 +22,12 @@ use Rattle.td_certificate.proofs.TreeLaws.{trees_are_counted}
 use Rattle.td_certificate.proofs.Walking.{lines_are_walked}
 use Rattle.td_certificate.proofs.Acceptance.{at_moments}
 use Rattle.td_join.specs.Joining.{pins_of, is_zero, is_one, is_known, AreJoined, alone, missing, halved, IsAlike, AcceptedTogether}
+use Rattle.td_join.proofs.Pinned.{same_pairs, refuted_wider}
 use Rattle.td_join.proofs.Cubing.{wider, filter_has, Contains-less}
 use Rattle.td_join.proofs.Restricting.{is_known_at}
 use Rattle.td_gates.proofs.Places.{All-from_contains}
 
-abbrev pub same_pairs : Admitted → List Trit → Admitted
-same_pairs admit pins = record admit { pins = pins }
-
 -- ---- a tree that is good with its own pins and time is so with wider pins and a greater time
-
--- what steps show of a cube doesn't depend on the pins
-refuted_wider : (setting : Setting) (admit : Admitted) (own cube : List Trit) (refuted : Refuted) → IsRefuted setting (same_pairs admit own) cube refuted.steps refuted.bound
-    → IsRefuted setting admit cube refuted.steps refuted.bound
-refuted_wider setting admit own cube refuted h = record {
-  circuit = h.circuit;
-  of_setting = h.of_setting;
-  reached = record { few = h.reached.few; sets = h.reached.sets; clauses = h.reached.clauses; done = h.reached.done };
-  within = h.within;
-}
 
 module _ (setting : Setting) (admit : Admitted) (own : List Trit) (least most : ℕ) (more : least ≤ most) where
   -- what is said of a line holds with wider pins, where its cube is a part of its own
@@ -50,7 +36,7 @@ module _ (setting : Setting) (admit : Admitted) (own : List Trit) (least most : 
   of_wider cube (node.Split position) part h = h
   of_wider cube (node.Bound domain bound) part h = h
   of_wider cube (node.Point time) part h = h
-  of_wider cube (node.Refuted refuted) part h = refuted_wider setting admit own cube refuted h
+  of_wider cube (node.Refuted refuted) part h = refuted_wider setting admit own cube refuted.steps refuted.bound h
   of_wider cube node.Empty part h = λ has. h (
     has.0,
     record { pinned = part has.0 has.2; held = has.1.held; few = has.1.few },

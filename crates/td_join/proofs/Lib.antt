@@ -5,6 +5,7 @@ pub mod Cubing
 pub mod Restricting
 pub mod Stacking
 pub mod Weights
+pub mod Pinned
 pub mod Acceptance
 pub mod Times
 pub mod Widening

@@ -17,7 +17,7 @@ use Rattle.td_join.specs.Faults.{IsGap, IsUnjoinable, IsJoinFault}
 use Rattle.td_join.specs.Steps.{HasFit, IsJoinable, IsFalseNoneIn}
 use Rattle.td_join.specs.Stacks.{IsOfQuestion, IsTreeFault}
 use Rattle.td_join.proofs.Refused.{refused}
-use Rattle.td_join.proofs.Acceptance.{same_pairs}
+use Rattle.td_join.proofs.Pinned.{same_pairs}
 
 abbrev pub whole_of : ℕ → Question → ℕ → Pair → List Node → Certificate
 whole_of gates question time pair tree = record { gates = gates; question = question; time = time; pair = pair; tree = tree }

@@ -1,5 +1,5 @@
 -- A tree of one leaf, which steps refute.
-use Rattle.std.proofs.Common.{◌≡◌, ◌∙◌, ℕ, ◌<◌, ◌≤◌, ◌^◌, min, Bool, List, [], ◌∷◌, length, refl, sym, ap, subst, arith}
+use Rattle.std.proofs.Common.{◌≡◌, ◌∙◌, ℕ, ◌<◌, ◌≤◌, ◌^◌, Bool, List, [], ◌∷◌, length, refl, sym, ap, subst, arith}
 use Rattle.std.proofs.lemmas.List.Elements.{recursion_from_All}
 use Rattle.std.specs.List.{AllByRecursion}
 use Rattle.td_domain.specs.Pairs.{Pair}
@@ -16,6 +16,7 @@ use Rattle.td_certificate.specs.Walks.{lines_from}
 use Rattle.td_certificate.proofs.Lengths.{refuted_texts_fit}
 use Rattle.td_refute.specs.declared.refuting.Refuted as found
 use Rattle.td_refute.specs.Answers.{IsShown}
+use Rattle.td_search.proofs.Capped.{capped, refuted_fewer}
 use Rattle.td_search.specs.declared.answers.Answer.TheVariants as answer
 use Rattle.td_search.specs.Problems.{Problem}
 use Rattle.td_search.specs.Answers.{certificate_of, IsExact}
@@ -27,10 +28,6 @@ few_flips : (before after : List Bool) → flips_of before after ≤ length befo
 few_flips [] after = omega arith
 few_flips (a ∷ before) [] = omega arith
 few_flips (a ∷ before) (b ∷ after) = omega (arith, one_flip a b, few_flips before after)
-
--- a certificate counts no more flips than there are inputs
-abbrev capped : Admitted → Admitted
-capped admit = record admit { flips = min admit.flips (length admit.held) }
 
 cap : (admit : Admitted) (pair : Pair) → length pair.first ≡ length admit.held → IsAdmitted admit pair → IsAdmitted (capped admit) pair
 cap admit pair long is = record {
@@ -49,14 +46,7 @@ module _ (asked : Problem) (budget : ℕ) (some : 0 < budget) (sizes : IsSpellab
     (refuted : found.Refuted) (shown : IsShown asked.setting asked.admit refuted) (within : refuted.bound ≤ time)
     (tree : List Node) (leaf : IsLeafOf refuted tree) where
   steps_shown : IsRefuted asked.setting (capped asked.admit) asked.admit.pins (leaf_of refuted).steps refuted.bound
-  steps_shown =
-      let is = shown.steps in
-      record {
-        circuit = is.circuit;
-        of_setting = is.of_setting;
-        reached = record { few = is.reached.few; sets = is.reached.sets; clauses = is.reached.clauses; done = is.reached.done };
-        within = is.within;
-      }
+  steps_shown = refuted_fewer asked.setting asked.admit asked.admit.pins (leaf_of refuted).steps refuted.bound sizes.held shown.steps
 
   good : AllByRecursion (IsGood asked.setting (capped asked.admit) time) (lines_from (asked.admit.pins ∷ []) (Refuted (leaf_of refuted) ∷ []))
   good = (record { splits = tt; one_pair = tt; of_cube = steps_shown; within = within }, tt)
