@@ -42,8 +42,10 @@ checked "$out.rtl.log" "$read" $allow
 python3 "$here/liberty.py" driver $liberty > "$out.constr"
 sizes=""
 [ ! -s "$out.constr" ] || sizes="-D 1000 -constr $out.constr"
+# A net without a driver that is allowed is 0, before anything is made of it.
+case $allow in *NoDriver*) driven="proc; setundef -zero -undriven;" ;; *) driven="" ;; esac
 logged "$out.synth.log" "mend the source, or map it by another tool" yosys -p "
-    $read; synth -nofsm -top $top; simplemap; dfflibmap -liberty $liberty
+    $read; $driven synth -nofsm -top $top; simplemap; dfflibmap -liberty $liberty
     abc $sizes -liberty $liberty
     setundef -zero; opt_clean -purge
     flatten; setundef -zero -undriven; opt_clean -purge; tee -o $out.unmapped dump t:\$*
