@@ -57,8 +57,10 @@ CASES = {
     ),
     "ten million ends taken again": Case(SMALL, [("r 3\n", 10_000_000)], *ACCEPTED),
     "a wide gate's ends taken again": Case(WIDE, [("r 4\n", 100_000)], *ACCEPTED),
-    "a gate's clauses of 4,096 literals": Case(SMALL, [(LONG, 1), (CLAUSE, 1_000)], *ACCEPTED),
-    "one of 4,097 literals": Case(SMALL, [(LONGER + TOO_LONG, 1)], *refused(12 + LITERALS + 1)),
+    "a gate's longest clauses": Case(SMALL, [(LONG, 1), (CLAUSE, 100)], *ACCEPTED),
+    "a gate's clause that is too long": Case(
+        SMALL, [(LONGER + TOO_LONG, 1)], *refused(13 + LITERALS)
+    ),
     "a lemma of a hundred million literals": Case(
         SMALL, [("f 2\nu 0 1\nl 100000001 1", 1), (" 0", 100_000_001), ("\n", 1)], *ACCEPTED
     ),
