@@ -102,7 +102,7 @@ pub fn refuted_further(
     requires some { 0 < budget }
     requires known { IsSoundAnswer (problem_of problem.now) budget known }
     requires text { CanBeWritten (problem_of problem.now) known }
-    ensures answer { (nodes : ℕ) → 0 < nodes → IsSoundAnswer (problem_of problem.now) nodes known → IsSoundAnswer (problem_of problem.now) nodes result }
+    ensures answer { IsSoundAnswer (problem_of problem.now) budget result }
     ensures text { CanBeWritten (problem_of problem.now) result }
     ensures narrower { IsNarrower known result }
     ensures time { TimeNeedsStop stop.now.can_be_set result }
@@ -140,7 +140,7 @@ fn refute_open_answer(
 ) -> Answer
     requires some { 0 < budget }
     requires known { IsOpenAnswer (problem_of problem.now) budget known }
-    ensures answer { (nodes : ℕ) → 0 < nodes → IsOpenAnswer (problem_of problem.now) nodes known → IsSoundAnswer (problem_of problem.now) nodes result }
+    ensures answer { IsSoundAnswer (problem_of problem.now) budget result }
     ensures text { CanBeWritten (problem_of problem.now) result }
     ensures low { known.best.time ≤ low_of result }
     ensures high { high_of result ≤ known.high }

@@ -152,7 +152,7 @@ fn by_all<W: Watch, R: Threads + Wait + Sync>(
     let second = with_nodes(limits, more);
     let led = led_further(rt, alloc, circuit, admit, known, second, watch);
     let work = left - more - most;
-    let shown = refuted_further(alloc, &problem, led, budget, work, stop);
+    let shown = refuted_further(alloc, &problem, led, nodes + more, work, stop);
     if !is_open(&shown) {
         return Ok(shown);
     }

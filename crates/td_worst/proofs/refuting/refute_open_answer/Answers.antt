@@ -10,14 +10,14 @@ refuted-requires c = record {
 }
 
 pub returns-in-Ok-Some-clause-answer : goal.returns-in-Ok-Some-clause-answer
-returns-in-Ok-Some-clause-answer c = λ nodes some is.
-    (c.refuted.ensures.answer (problem_of c.args.problem.now) nodes some (record {
+returns-in-Ok-Some-clause-answer c =
+    (c.refuted.ensures.answer (problem_of c.args.problem.now) c.args.budget c.requires.some (record {
       inputs = c.gates-gates.ensures.numbering.well_formed.few_inputs;
       gates = c.gates-gates.ensures.numbering.well_formed.few_gates;
       held = c.args.problem.now.held;
       pins = c.pins-pins.ensures.fit;
       moments = c.moments-moments.ensures.fit;
-    }) (with_best (problem_of c.args.problem.now) nodes c.args.known _ is c.in-Ok-Some.ensures.best)
+    }) (with_best (problem_of c.args.problem.now) c.args.budget c.args.known _ c.requires.known c.in-Ok-Some.ensures.best)
     (rw c.in-Ok-Some.field-0-is at c.in-Ok-Some.ensures.shown)).0
 
 pub returns-in-Ok-Some-clause-text : goal.returns-in-Ok-Some-clause-text
@@ -32,11 +32,11 @@ returns-in-Ok-Some-clause-text c =
     (rw c.in-Ok-Some.field-0-is at c.in-Ok-Some.ensures.shown)).1
 
 pub returns-in-Ok-None-clause-answer : goal.returns-in-Ok-None-clause-answer
-returns-in-Ok-None-clause-answer c = λ nodes some is.
-    rw c.between.ensures (reported_between (problem_of c.args.problem.now) nodes _ c.ending.result
-    (with_best (problem_of c.args.problem.now) nodes c.args.known _ is c.search.ensures.best)).0
+returns-in-Ok-None-clause-answer c =
+    rw c.between.ensures (reported_between (problem_of c.args.problem.now) c.args.budget _ c.ending.result
+    (with_best (problem_of c.args.problem.now) c.args.budget c.args.known _ c.requires.known c.search.ensures.best)).0
 
 pub returns-in-Err-clause-answer : goal.returns-in-Err-clause-answer
-returns-in-Err-clause-answer c = λ nodes some is.
-    rw c.between-in-Err.ensures (reported_between (problem_of c.args.problem.now) nodes _ Memory
-    (with_best (problem_of c.args.problem.now) nodes c.args.known _ is c.search.ensures.best)).0
+returns-in-Err-clause-answer c =
+    rw c.between-in-Err.ensures (reported_between (problem_of c.args.problem.now) c.args.budget _ Memory
+    (with_best (problem_of c.args.problem.now) c.args.budget c.args.known _ c.requires.known c.search.ensures.best)).0
