@@ -20,6 +20,7 @@ import sys
 from lib import check
 from lib.netlists import KINDS
 
+import second_domains
 import second_opinion as opinion
 from second_opinion import X
 
@@ -532,9 +533,11 @@ def compare_bounds(setup, question):
         for letter in "atmen"
     ]
     lines = [f"{letter} {'none' if bound is None else bound}" for letter, bound in bounds]
-    of_outputs = zip(circuit.outputs, opinion.bounds("m", circuit, question.pins, question.moments))
+    of_outputs = second_domains.bounds("m", circuit, question.pins, question.moments)
     lines += [
-        f"output {circuit.nets[net]}" for net, bound in of_outputs if bound == dict(bounds)["m"]
+        f"output {circuit.nets[net]}"
+        for net, bound in zip(circuit.outputs, of_outputs)
+        if bound == dict(bounds)["m"]
     ][:1]
     ours = opinion.report([f"unit {circuit.unit}", f"defaulted {circuit.defaulted}", *lines]), "", 0
     at = "--at=" + ",".join(map(str, question.moments))
