@@ -82,6 +82,7 @@ LIES = {
         "a bound that is none is a bad step": edited("s/refused 3 LeafBound/refused 10 BadStep/"),
     },
     "refused_growths": {"a search after its root is out of memory": 1},
+    "real": {"a time that is one less": where("worst", MORE.format(key="exact", by=-1))},
     "strategies": {"a time that is one less": where("lead", MORE.format(key="exact", by=-1))},
     "tables": {
         "a time that is one more": where("worst", MORE.format(key="exact", by=1)),
