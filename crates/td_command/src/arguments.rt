@@ -416,7 +416,8 @@ out",
 climbs to a first pair and bounds by edges, and its certificates are\n\
 of version 4. `refute` asks a solver how long nets keep their levels,\n\
 and its certificates are of version 5. `auto` is a short `least`, a short\n\
-`lead`, then `refute`, then `lead` again, until one of them ends",
+`lead`, then `refute`, then `lead` again, until one of them\n\
+ends",
         )
     }
 
