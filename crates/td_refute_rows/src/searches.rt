@@ -42,7 +42,7 @@ fn asked<'a>(pins: &'a str, held: &'a str, flips: u32) -> Question<'a> {
 }
 
 /// The circuit of a text, if it has one.
-fn circuit_of(alloc: Global, text: &str) -> Option<Circuit> {
+pub fn circuit_of(alloc: Global, text: &str) -> Option<Circuit> {
     let default = Delay::new(1, 1)?;
     let Ok(netlist) = read(alloc, text.as_bytes(), default) else {
         return None;
