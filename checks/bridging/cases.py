@@ -76,7 +76,8 @@ SOURCE = (
 RESET = """module t(input clk,rst_n,d, output reg [1:0] q);
 always @(posedge clk or negedge rst_n) if (!rst_n) q <= 0; else q <= {q[0]^q[1],d}; endmodule
 """
-# The exact figure of rot4 with two inputs pinned, and the last change of its pair on the cells.
+# The exact figure of rot4 with two inputs pinned, and the last change on the cells of the pair that
+# `least` gives.
 PINNED = 711, 778
 BOX = """(* blackbox *) module ram(input [1:0] a, output [1:0] q); endmodule
 module t(input [1:0] x, input s, output [1:0] y); wire [1:0] q; ram r(.a(x ^ {2{s}}), .q(q));
@@ -382,7 +383,7 @@ class Cases:
         words = ("rot4.v", "rot4", REAL[0].liberty, "rotated", "--models", REAL[0].models, "--json")
         told = json.loads(self.run("figure.sh", *words).out or "{}")
         self.same(f"cells beside gates: {told}", True, isinstance(told.get("cells"), int))
-        pins = ("--pin", "d[2]=1", "--pin", "l=0")
+        pins = ("--pin", "d[2]=1", "--pin", "l=0", "--strategy", "least")
         told = json.loads(self.run("figure.sh", *words, *pins).out or "{}")
         found = told.get("exact"), told.get("cells")
         wanted = PINNED if versions() == VERSIONS else found
