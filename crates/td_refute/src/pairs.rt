@@ -1,4 +1,4 @@
-//! Pairs, as they are known and as a search has them.
+//! Pairs that a search found.
 
 ghost use Rattle.std.specs.Prelude.{◌≤◌, length, IfOk};
 ghost use Rattle.td_domain.specs.Admits.{IsAdmitted};
@@ -7,14 +7,6 @@ ghost use Rattle.td_domain.specs.PairBits.{AreAdmitted};
 use std::alloc::{AllocError, Global};
 use td_domain::{Admit, Bits, Pair};
 use td_span_search::PairBits;
-
-/// The bits of a pair. The error is out of memory.
-pub fn bits_of(alloc: Global, pair: &Pair) -> Result<PairBits, AllocError> {
-    Ok(PairBits {
-        first: Vec::from_slice(alloc, pair.first())?,
-        second: Vec::from_slice(alloc, pair.second())?,
-    })
-}
 
 /// The admitted pair with these bits, if it is one, else with some of them: an admitted pair that
 /// takes one input's bits after another. The error is out of memory.

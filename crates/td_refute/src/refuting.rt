@@ -29,9 +29,9 @@ pub struct Refuted {
     pub steps: Vec<Step>,
 }
 
-/// Searches for late pairs and for a refutation of later ones, from a pair that is known with its
-/// delay on, which a later one replaces. Answers the least bound that was shown; none where the
-/// circuit has no gates or is too large, where the stop was set before, or where the lines are
+/// Searches for pairs that are later than a known one, and for a refutation of later ones still. A
+/// later pair takes the place of the known one. Answers the least bound that was shown; none where
+/// the circuit has no gates or is too large, where the stop was set before, or where the lines are
 /// refused. The error is out of memory; a later pair that was found is kept then too.
 ///
 /// Where the bound is the best pair's delay, that is the worst delay.
@@ -56,7 +56,7 @@ pub fn refute(
     if gates == 0 || gates > MOST_GATES || effort.stop.is_set() {
         return Ok(None);
     }
-    let Findings { pair, steps } = search(alloc, circuit, admit, &best.pair, effort)?;
+    let Findings { pair, steps } = search(alloc, circuit, admit, best.time, effort)?;
     keep_found(alloc, scratch, circuit, admit, &pair, best)?;
     let steps = steps?;
     show(alloc, circuit, admit, best, steps)

@@ -3,11 +3,10 @@
 ghost use Rattle.std.specs.Prelude.{◌≡◌, length};
 
 use crate::effort::Effort;
-use crate::pairs::bits_of;
 use crate::spelling::steps_of;
 use std::alloc::{AllocError, Global};
 use td_circuit::Circuit;
-use td_domain::{Admit, Pair};
+use td_domain::Admit;
 use td_refutation::Step;
 use td_span_search::{Admitted, FOREVER, Limits, Network, PairBits, Search, Times};
 use td_spans::first_times;
@@ -20,13 +19,14 @@ pub struct Findings {
     pub steps: Result<Vec<Step>, AllocError>,
 }
 
-/// Searches among the admitted pairs, from one of them on. The error is out of memory before
-/// anything was found.
+/// Searches for admitted pairs that are later than a known one, by its delay. It begins with a pair
+/// of its own, whose levels its solver tries first: near a late pair later ones are rare. The error
+/// is out of memory before anything was found.
 pub fn search(
     alloc: Global,
     circuit: &Circuit,
     admit: &Admit,
-    start: &Pair,
+    known: u64,
     effort: Effort<'_>,
 ) -> Result<Findings, AllocError>
     requires { length admit.now.held ≡ length circuit.now.netlist.inputs }
@@ -34,9 +34,11 @@ pub fn search(
     let network = Network::new(alloc, circuit)?;
     let admitted = Admitted::new(alloc, &network, admit)?;
     let times = times_in(alloc, circuit, admit)?;
-    let limits = Limits::of_work(effort.work);
+    let limits = Limits {
+        known,
+        ..Limits::of_work(effort.work)
+    };
     let mut search = Search::new(alloc, &network, &admitted, &times, limits, effort.stop)?;
-    search.start_from(bits_of(alloc, start)?);
     let ended = search.run();
     let pair = search.pair().copy(alloc)?;
     let steps = match ended {

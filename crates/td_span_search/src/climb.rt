@@ -46,7 +46,7 @@ impl<'a> Search<'a> {
         let mut here = from;
         let mut idle = 0u64;
         for _ in 0..tries {
-            if inputs == 0 || self.best.delay >= self.top() || self.is_over() {
+            if inputs == 0 || self.best_known() >= self.top() || self.is_over() {
                 return Ok(());
             }
             let mut pair = here.pair.copy(self.alloc)?;

@@ -6,6 +6,8 @@
 pub struct Limits {
     /// It ends after so much work.
     pub work: u64,
+    /// A pair with this delay is known: only later ones are looked for.
+    pub known: u64,
     /// How many gates the first climb simulates.
     pub climb: u64,
     /// How many pairs it tries round a better one, or round the best of a question that stays open.
@@ -29,6 +31,7 @@ impl Limits {
     pub fn of_work(work: u64) -> Limits {
         Limits {
             work,
+            known: 0,
             climb: 1_000_000,
             near: 400,
             reuse: 4,

@@ -70,9 +70,9 @@ impl Schedule {
 }
 
 impl<'a> Search<'a> {
-    /// Searches until the best delay is the latest moment that is possible, or the work is done, or
-    /// the stop is set. What was found stands in the search, also after an error, which is out of
-    /// memory.
+    /// Searches until the best delay that is known is the latest moment that is possible, or the work
+    /// is done, or the stop is set. What was found stands in the search, also after an error, which
+    /// is out of memory.
     pub fn run(&mut self) -> Result<(), AllocError> {
         let pair = self.best.pair.copy(self.alloc)?;
         let delay = self.simulate(&pair)?;
@@ -87,7 +87,7 @@ impl<'a> Search<'a> {
             sweeps_from: self.limits.sweeps_from,
         };
         for _ in 0..u64::MAX {
-            if self.best.delay >= self.top() || self.is_over() {
+            if self.best_known() >= self.top() || self.is_over() {
                 return Ok(());
             }
             self.turn(&mut schedule)?;
@@ -97,7 +97,7 @@ impl<'a> Search<'a> {
 
     // One question, and what follows from its answer.
     fn turn(&mut self, schedule: &mut Schedule) -> Result<(), AllocError> {
-        let low = self.best.delay;
+        let low = self.best_known();
         let top = self.top();
         schedule
             .failed

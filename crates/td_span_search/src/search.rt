@@ -169,14 +169,14 @@ impl<'a> Search<'a> {
         })
     }
 
-    /// Lets the search begin at an admitted pair, where it hasn't begun.
-    pub fn start_from(&mut self, pair: PairBits) {
-        self.best = Found { delay: 0, pair };
-    }
-
     /// The delay of the best pair that was found.
     pub fn low(&self) -> u64 {
         self.best.delay
+    }
+
+    /// The best delay that is known, by a pair that was found or before.
+    pub(crate) fn best_known(&self) -> u64 {
+        self.best.delay.max(self.limits.known)
     }
 
     /// The best pair that was found.

@@ -40,7 +40,7 @@ impl<'a> Search<'a> {
         let mut fails = 0u32;
         for _ in 0..u64::MAX {
             let way = self.reach.way(net, level).saturating_sub(1);
-            let early = self.best.delay.saturating_add(1).saturating_sub(way);
+            let early = self.best_known().saturating_add(1).saturating_sub(way);
             let low = early.max(1).max(self.reach.seen(net, level));
             let high = self.reach.times(net).end(level);
             if high <= low || fails >= 2 || self.is_over() {
