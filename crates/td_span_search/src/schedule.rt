@@ -70,9 +70,9 @@ impl Schedule {
 }
 
 impl<'a> Search<'a> {
-    /// Searches until the best delay that is known is the latest moment that is possible, or the work
-    /// is done, or the stop is set. What was found stands in the search, also after an error, which
-    /// is out of memory.
+    /// Searches until the best delay that is known is the latest moment that is possible, or the
+    /// work is done, or the stop is set. What was found stands in the search, also after an error,
+    /// which is out of memory.
     pub fn run(&mut self) -> Result<(), AllocError> {
         let pair = self.best.pair.copy(self.alloc)?;
         let delay = self.simulate(&pair)?;
@@ -146,8 +146,8 @@ impl<'a> Search<'a> {
         Ok(())
     }
 
-    // Whether one of the outputs that may change after the moment does, the latest first; open where
-    // the effort isn't enough for one.
+    // Whether one of the outputs that may change after the moment does, the latest first; open
+    // where the effort isn't enough for one.
     fn outputs(&mut self, moment: u64, effort: u64) -> Result<Reply, AllocError> {
         let mut outputs = Vec::new(self.alloc);
         for output in self.network.outputs() {
