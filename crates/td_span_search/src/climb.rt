@@ -6,7 +6,8 @@ use crate::search::{Found, Search};
 use std::alloc::AllocError;
 use td_cdcl::small;
 
-// So many times as many moves as there are inputs without a better pair, and a climb goes elsewhere.
+// So many times as many moves as there are inputs without a better pair, and a climb goes
+// elsewhere.
 const PATIENCE: u64 = 40;
 
 impl<'a> Search<'a> {

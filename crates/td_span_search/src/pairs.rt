@@ -205,8 +205,8 @@ impl Admitted {
         pair.put(step.input, before, after);
     }
 
-    // Lets an input stand still that differs and isn't pinned to, the first from a place on. Answers
-    // whether there is one.
+    // Lets an input stand still that differs and isn't pinned to, the first from a place on.
+    // Answers whether there is one.
     fn still_one(&self, pair: &mut PairBits, from: usize) -> bool {
         let inputs = self.held.len();
         for offset in 0..inputs {

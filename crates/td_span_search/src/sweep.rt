@@ -33,8 +33,8 @@ impl<'a> Search<'a> {
         Ok(())
     }
 
-    // Lowers an end of a net in steps that grow while they succeed, down to where a change was seen,
-    // or is too early to reach beyond the best pair.
+    // Lowers an end of a net in steps that grow while they succeed, down to where a change was
+    // seen, or is too early to reach beyond the best pair.
     fn lower_end(&mut self, net: Net, level: bool) -> Result<(), AllocError> {
         let mut step = 1u64;
         let mut fails = 0u32;

@@ -31,8 +31,8 @@ impl<'a> Search<'a> {
         Ok(())
     }
 
-    /// The variable of a span in its normal form, made with clauses to its neighbours where it isn't
-    /// there. The error is out of memory.
+    /// The variable of a span in its normal form, made with clauses to its neighbours where it
+    /// isn't there. The error is out of memory.
     pub(crate) fn span(&mut self, span: Span) -> Result<u32, AllocError> {
         if let Some(variable) = self.spans.find(span) {
             return Ok(variable);
