@@ -386,7 +386,7 @@ def shares(tested, cut):
     if tested.most is not None and tested.most < CASES:
         return
     tested.require("pair that changes an output", 0.5, of="pair")
-    tested.require("proved", 0.01)
+    tested.require("proved", 0.005)
     for kind in ("simulated", "one gate each", "some outputs", "tree"):
         tested.require(kind, 0.1, of="proved")
     for kind in (
