@@ -14,10 +14,12 @@ import glob
 import os
 import re
 import sys
+import textwrap
 from dataclasses import dataclass, field
 
 TOP = os.path.dirname(os.path.dirname(os.path.abspath(__file__)))
 PAGE = os.path.join(TOP, "docs", "CONTRACTS.md")
+WIDTH = 100
 BLOCK = re.compile(r"^(```\n)(pub fn .*?)(^```$)", flags=re.M | re.S)
 CLAUSE = re.compile(r"^ *(requires|ensures)(?: (\w+))? \{")
 
@@ -117,13 +119,18 @@ def source_of(quoted, crates):
 
 
 def laid_out(text, indent):
-    """A head or a clause as the page has it: a clause on one line where it has 150 columns or less,
-    else as the sources break it.
-    """
-    lines = [line.strip() for line in text.splitlines()]
-    if len(plain(text)) + len(indent) <= 150 or text.lstrip().startswith("pub fn"):
-        return indent + plain(text)
-    return "\n".join([indent + lines[0], *(f"{indent}    {line}" for line in lines[1:])])
+    """A head or a clause as the page has it, in lines of at most WIDTH columns."""
+    later = indent + "    "
+    return "\n".join(
+        textwrap.wrap(
+            plain(text),
+            WIDTH,
+            initial_indent=indent,
+            subsequent_indent=later,
+            break_long_words=False,
+            break_on_hyphens=False,
+        )
+    )
 
 
 def compared(quoted, source, differing):

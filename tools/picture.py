@@ -14,6 +14,7 @@ it at the top of the repository.
 import os
 import re
 import sys
+import textwrap
 
 sys.path.insert(
     0, os.path.join(os.path.dirname(os.path.dirname(os.path.abspath(__file__))), "build")
@@ -69,7 +70,8 @@ def folded(head, texts):
         if rows and len(rows[-1] + " | " + text) <= WIDTH:
             rows[-1] += " | " + text
         else:
-            rows.append((" " * len(head) if rows else head) + text)
+            first, later = " " * len(head) if rows else head, " " * (len(head) + 4)
+            rows += textwrap.wrap(text, WIDTH, initial_indent=first, subsequent_indent=later)
     return rows
 
 
