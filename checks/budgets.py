@@ -5,8 +5,8 @@ Each case is a search of a random circuit of at most three inputs, some with pin
 flips and moments of inputs, by a strategy and within a budget from 0 to 40. Its worst delay is
 found by running every admitted pair in tools/second_opinion.py. An exact answer has to be this
 delay, in no more nodes than the budget; `between` has to have figures around it, the budget as its
-cause, and as many nodes as the budget, with `refute` at most the one of its first tree. The pair
-has to be admitted, and to have the lower figure.
+cause, and as many nodes as the budget, with `refute` none. The pair has to be admitted, and to have
+the lower figure.
 """
 
 import sys
@@ -25,7 +25,7 @@ def answer_fits(done, strategy, budget, wanted):
     nodes = int(values["nodes"])
     if reports.is_exact(done.out):
         return done.status == 0 and figures.low == wanted and nodes <= budget
-    handled = min(budget, 1) if strategy == "refute" else budget
+    handled = 0 if strategy == "refute" else budget
     is_cut_short = done.status == 3 and values.get("cause") == "budget" and nodes == handled
     return is_cut_short and figures.low <= wanted <= figures.high
 

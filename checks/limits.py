@@ -19,13 +19,17 @@ LARGE = 1_000_000_000
 MOST_BYTES = 67_108_864
 HEAD = "unit 1 ns\ndefaulted 0\n"
 TWO = module("a, b", "y", "buf #4 s(t,a)", "or #1 g(y,b,t)")
-OF_TWO = "\ncircuit 2 2\nfirst ..\nsecond ..\nhold ..\n"
+OF_TWO = "first ..\nsecond ..\nhold ..\n"
 # Certificates of the versions.
 CERTIFICATES = [
     (INVERTER, "tdelay-cert 1\ncircuit 1 1\ntime 3\nfrom 0\nto 1\nb a 3\n"),
-    (TWO, f"tdelay-cert 2{OF_TWO}flips 1\ntime 5\nfrom 00\nto 10\nb a 5\n"),
-    (TWO, f"tdelay-cert 3{OF_TWO}flips 2\nat 0 2\ntime 5\nfrom 00\nto 10\nb a 5\n"),
-    (TWO, f"tdelay-cert 4{OF_TWO}flips 2\nat 0 0\ntime 5\nfrom 00\nto 10\nb e 5\n"),
+    (TWO, f"tdelay-cert 2\ncircuit 2 2\n{OF_TWO}flips 1\ntime 5\nfrom 00\nto 10\nb a 5\n"),
+    (TWO, f"tdelay-cert 3\ncircuit 2 2\n{OF_TWO}flips 2\nat 0 2\ntime 5\nfrom 00\nto 10\nb a 5\n"),
+    (
+        TWO,
+        f"tdelay-cert 4\ncircuit 2 2\ndefault 1 1\noutput all\n{OF_TWO}flips 2\nat 0 0\nkeep none\n"
+        "time 5\nhigh 5\nfrom 00\nto 10\nb e 5\n",
+    ),
 ]
 
 

@@ -90,7 +90,6 @@ LINES = [
     b"tdelay-cert 2",
     b"tdelay-cert 3",
     b"tdelay-cert 4",
-    b"tdelay-cert 5",
     b"s 0",
     b"s 1",
     b"b a 0",
@@ -375,7 +374,9 @@ def fault_of_exact(tested, words, out):
 def fault_of_check(texts, done):
     """What is wrong with a verdict, by the second opinion, None where nothing is."""
     out, fault, status = second_opinion.told(
-        lambda: second_opinion.check(second_opinion.read_circuit(texts["t.v"]), texts["c"])
+        lambda: second_opinion.check(
+            second_opinion.read_circuit(texts["t.v"]), second_opinion.Delays(1, 1), None, texts["c"]
+        )
     )
     if (done.status, done.out.decode()) != (status, out):
         return f"the second opinion says {status}: {out}{fault}"

@@ -251,40 +251,61 @@ def symbols_of(levels):
     return "".join("01."[level] for level in levels) or "none"
 
 
-def own_certificate(rng, circuit, question):
-    """The lines of a certificate with a tree of its own, of version 4 or of the version of its
-    question; a list, or None without a pair.
-    """
-    pairs = admitted_pairs(rng, question)
-    if not pairs:
-        return None
-    pair = max(pairs, key=lambda pair: timed(circuit, question, pair))
-    time, version = timed(circuit, question, pair), rng.choice([version_of(question), 4, 4])
-    letters = (
-        rng.choice(["a", "t", "m", "atm"]) if version < 4 else rng.choice(["e", "n", "en", "atmen"])
-    )
-    if rng.random() < 0.6:
-        tree = tree_lines(rng, circuit, question, time, letters, version > 1, 400)
-    else:
-        tree = one_leaf(rng, circuit, question, rng.choice(letters))
-    count = circuit.inputs
-    lines = [f"tdelay-cert {version}", f"circuit {count} {len(circuit.gates)}"]
+def question_lines(version, defaults, question):
+    """The lines of a text of this version that tell what is asked, of all outputs."""
+    lines = []
+    if version > 3:
+        lines += [f"default {defaults.rise} {defaults.fall}", "output all"]
     if version > 1:
         lines += [
             f"first {symbols_of(question.pins[::2])}",
             f"second {symbols_of(question.pins[1::2])}",
-        ]
-        lines += [
             "hold " + ("".join(".="[held] for held in question.held) or "none"),
             f"flips {question.flips}",
         ]
     if version > 2:
         lines.append("at " + (" ".join(map(str, question.moments)) or "none"))
-    return (
-        lines
-        + [f"time {time}", f"from {symbols_of(pair[::2])}", f"to {symbols_of(pair[1::2])}"]
-        + tree
-    )
+    if version > 3:
+        lines.append("keep none")
+    return lines
+
+
+def claim_lines(version, time, high, pair):
+    """The lines of a text of this version that tell what is claimed."""
+    return [
+        f"time {time}",
+        *([f"high {high}"] if version > 3 else []),
+        f"from {symbols_of(pair[::2])}",
+        f"to {symbols_of(pair[1::2])}",
+    ]
+
+
+def own_certificate(setup, question):
+    """The lines of a certificate with a tree of its own, of version 4 or of the version of its
+    question; a list, or None without a pair. In version 4 what it claims may be a bound alone, and
+    it may tell other default delays than it is checked with.
+    """
+    rng, circuit, defaults = setup.rng, setup.circuit, setup.steps
+    pairs = admitted_pairs(rng, question)
+    if not pairs:
+        return None
+    pair = max(pairs, key=lambda pair: timed(circuit, question, pair))
+    time, version = timed(circuit, question, pair), rng.choice([version_of(question), 4, 4])
+    high = time + rng.choice([0, 0, 0, 1, 5]) if version > 3 else time
+    letters = rng.choice(["a", "t", "m", "atm"] + (["e", "n", "en", "atmen"] * 2) * (version > 3))
+    if rng.random() < 0.6:
+        tree = tree_lines(rng, circuit, question, high, letters, version > 1, 400)
+    else:
+        tree = one_leaf(rng, circuit, question, rng.choice(letters))
+    if rng.random() < 0.05:
+        defaults = defaults._replace(fall=defaults.fall + 1)
+    return [
+        f"tdelay-cert {version}",
+        f"circuit {circuit.inputs} {len(circuit.gates)}",
+        *question_lines(version, defaults, question),
+        *claim_lines(version, time, high, pair),
+        *tree,
+    ]
 
 
 # ---- Mutations ----
@@ -446,19 +467,23 @@ def comparable(answer):
 def compare_check(setup, certificate, origin):
     """Compares `check` of a certificate, and counts its version and what is said of it."""
     setup.tested.write("c", certificate)
-    version = re.match(rb"tdelay-cert ([1-5])\n", certificate)
+    version = re.match(rb"tdelay-cert ([1-4])\n", certificate)
 
-    def kinds_of(_, __, status):
+    def kinds_of(out, _, status):
         verdict = {0: "accepted", 4: "refused"}.get(status, "a fault of the text")
         return [
             f"check: {verdict}",
+            *["check: accepted between"] * out.startswith("accepted between"),
+            *["check: OtherQuestion"] * ("OtherQuestion" in out),
             f"check: version {version[1].decode() if version else 'none'}",
             f"check: {origin}",
         ]
 
     setup.compare(
         ["check", "t.v", "c"],
-        opinion.told(lambda: opinion.check(setup.circuit or setup.read(), certificate)),
+        opinion.told(
+            lambda: opinion.check(setup.circuit or setup.read(), setup.steps, None, certificate)
+        ),
         kinds_of,
     )
 
@@ -601,7 +626,7 @@ def compare_circuit(tested, rng):
         question = question_of(words, setup.circuit.inputs)
         compare_bounds(setup, question)
         for times in (0, 0, 3):
-            own = own_certificate(rng, setup.circuit, question)
+            own = own_certificate(setup, question)
             if own:
                 compare_mutated(setup, ("\n".join(own) + "\n").encode(), "own", times)
     return None
@@ -628,6 +653,8 @@ SHARES = {
     "check: accepted": 0.1,
     "check: refused": 0.1,
     "check: a fault of the text": 0.02,
+    "check: accepted between": 0.01,
+    "check: OtherQuestion": 0.005,
     "check: of a search": 0.03,
     "check: version 1": 0.02,
     "check: version 2": 0.02,

@@ -38,6 +38,7 @@ PAGES = {
     "README.md": 5,
     "docs/MANUAL.md": 15,
     "docs/NETLIST.md": 1,
+    "docs/TRANSITION-DELAY.md": 5,
     "examples/README.md": 7,
     "examples/from_rtl/README.md": 7,
 }
@@ -54,6 +55,7 @@ PLANTED = [
 # Commands that a page tells of in words.
 OTHERS = {
     "README.md": ["worst lost.v --budget 1"],
+    "docs/TRANSITION-DELAY.md": [],
     "docs/MANUAL.md": [
         "bound inverter.v",
         "sim skew.v 01 10",

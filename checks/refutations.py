@@ -1,5 +1,5 @@
 #!/usr/bin/env python3
-"""Compares `check` of certificates of version 5 with tools/second_opinion.py, and what is accepted
+"""Compares `check` of certificates of version 4 with tools/second_opinion.py, and what is accepted
 with runs of all admitted pairs.
 
 Makes small random circuits and questions, and for each of them certificates whose trees have leaves
@@ -32,11 +32,15 @@ CASES = 3000
 # What is said of the page's example, with one text in place of another.
 CHANGES = [
     ("", "", "accepted 3"),
-    ("\nw 6 0 2\n", "\nw 6 0 1\n", "refused 10 BadStep line 16"),
-    (" 0 1 3\ne", " 0 1\ne", "refused 10 BadStep line 20"),
-    ("\nq 3\n", "\nq 2\n", "refused 3 LeafBound line 23"),
-    ("\nq 3\n", "\nq 4\n", "refused 4 LeafAboveTime line 23"),
-    ("\nx\n", "\nb e 8\n", "certificate fault 1 Syntax at line 11"),
+    ("\nw 6 0 2\n", "\nw 6 0 1\n", "refused 10 BadStep line 20"),
+    (" 0 1 3\ne", " 0 1\ne", "refused 10 BadStep line 24"),
+    ("\nq 3\n", "\nq 2\n", "refused 3 LeafBound line 27"),
+    ("\nhigh 3\n", "\nhigh 2\n", "refused 4 LeafAboveTime line 27"),
+    ("\nhigh 3\n", "\nhigh 5\n", "accepted between 3 5"),
+    ("\ntime 3\n", "\ntime 4\n", "refused 2 PairTime"),
+    ("\ndefault 1 1\n", "\ndefault 1 2\n", "refused 11 OtherQuestion line 3"),
+    ("\noutput all\n", "\noutput 0\n", "refused 11 OtherQuestion line 4"),
+    ("\nkeep none\n", "\nkeep 7 .1\n", "certificate fault 1 Syntax at line 10"),
 ]
 # The most pairs that are run.
 PAIRS = 1024
@@ -120,20 +124,13 @@ def random_leaf(rng, circuit, question, time):
     return ["x", *lines, f"q {rng.choice([*least, *least, min(bound, time)])}"]
 
 
-def head_lines(circuit, question, time, pair):
-    """The lines of a certificate of version 5 before its tree."""
-    words = opinions.symbols_of
+def head_lines(circuit, defaults, question, time, pair):
+    """The lines of a certificate of version 4 before its tree."""
     return [
-        "tdelay-cert 5",
+        "tdelay-cert 4",
         f"circuit {circuit.inputs} {len(circuit.gates)}",
-        f"first {words(question.pins[::2])}",
-        f"second {words(question.pins[1::2])}",
-        "hold " + ("".join(".="[held] for held in question.held) or "none"),
-        f"flips {question.flips}",
-        "at " + (" ".join(map(str, question.moments)) or "none"),
-        f"time {time}",
-        f"from {words(pair[::2])}",
-        f"to {words(pair[1::2])}",
+        *opinions.question_lines(4, defaults, question),
+        *opinions.claim_lines(4, time, time, pair),
     ]
 
 
@@ -155,11 +152,12 @@ def kinds_of(answer, origin, line, letters):
 
 
 def is_true(setup, certificate):
-    """Whether the time of a certificate is the greatest delay of its admitted pairs."""
+    """Whether the greatest delay of a certificate's admitted pairs is what it says."""
     read = opinion.read_certificate(certificate)
-    return event_queue.latest_change(
+    latest = event_queue.latest_change(
         setup.circuit, pairs_of(read.question), read.question.moments
-    ) == read.time
+    )
+    return read.time <= latest <= read.high
 
 
 def compare(setup, lines, origin, wanted=None):
@@ -170,7 +168,9 @@ def compare(setup, lines, origin, wanted=None):
     tested = setup.tested
     tested.write("c", certificate)
     theirs = setup.program("check", "t.v", "c")
-    ours = opinion.told(lambda: opinion.check(setup.circuit, certificate))
+    ours = opinion.told(
+        lambda: opinion.check(setup.circuit, setup.steps, None, certificate)
+    )
     at = re.match(r"refused .* line (\d+)\n", theirs[0])
     line = int(at[1]) if at else 0
     letters, wrong = set(), None
@@ -179,7 +179,7 @@ def compare(setup, lines, origin, wanted=None):
     elif wanted and not (theirs[0] + theirs[1].removeprefix("tdelay: ")).startswith(wanted + "\n"):
         wrong = f"{theirs}, and not {wanted}"
     elif theirs[2] == 0 and not is_true(setup, certificate):
-        wrong = f"{theirs}, which isn't the greatest delay"
+        wrong = f"{theirs}, and the greatest delay is another"
     elif theirs[2] == 0 or line:
         letters, wrong = truth.of_leaves(setup.circuit, certificate, line)
     if wrong:
@@ -196,9 +196,9 @@ def compare_example(tested):
     """Cases: the example of the page, whole and changed."""
     page = places.text_of("docs", "CERTIFICATE.md")
     netlist = re.search(r"(?s)```\n(module .*?)```", page)[1]
-    example = re.search(r"(?s)```\n(tdelay-cert 5\n.*?)```", page)[1]
+    example = re.search(r"```\n(tdelay-cert 4\n[^`]*\nx\n[^`]*)```", page)[1]
     setup = opinions.Setup(tested, random.Random(0), netlist.encode())
-    setup.defaults = []
+    setup.defaults, setup.steps = [], opinion.Delays(1, 1)
     for old, new, wanted in CHANGES:
         compare(setup, example.replace(old, new, 1).encode(), "of the page", wanted)
 
@@ -213,16 +213,18 @@ def changed(rng, head, tree):
     return opinions.by_bytes(rng, ("\n".join(head + tree) + "\n").encode())
 
 
-def lesser(rng, circuit, question, worst, tree):
+def lesser(setup, question, worst, tree):
     """A certificate of a pair with a lesser delay, whose leaves say no more than that, and in which
     now and then all that is late is sooner by as much.
     """
+    rng, circuit = setup.rng, setup.circuit
     pair = rng.choice(pairs_of(question))
     time = event_queue.latest_change(circuit, [pair], question.moments)
     if time == worst:
         return None
     by = rng.choice([0, worst - time])
-    return head_lines(circuit, question, time, pair) + tampering.sooner(rng, tree, by, time)
+    head = head_lines(circuit, setup.steps, question, time, pair)
+    return head + tampering.sooner(rng, tree, by, time)
 
 
 def compare_written(setup, words, question, worst):
@@ -233,10 +235,10 @@ def compare_written(setup, words, question, worst):
     if "x" not in lines:
         return
     compare(setup, written, "of a search", f"accepted {worst}")
-    head, tree = lines[:10], lines[10:]
+    head, tree = lines[:14], lines[14:]
     for _ in range(4):
         compare(setup, changed(rng, head, tree), "changed")
-    less = lesser(rng, setup.circuit, question, worst, tree)
+    less = lesser(setup, question, worst, tree)
     if less:
         compare(setup, less, "a lesser claim")
 
@@ -244,7 +246,7 @@ def compare_written(setup, words, question, worst):
 def compare_own(setup, question, worst, pair):
     """Compares certificates of leaves that are made here."""
     rng, circuit = setup.rng, setup.circuit
-    head = head_lines(circuit, question, worst, pair)
+    head = head_lines(circuit, setup.steps, question, worst, pair)
     for _ in range(4):
         compare(setup, head + random_leaf(rng, circuit, question, worst), "random steps")
     tree = tree_lines(rng, circuit, question, worst, rng.choice([1, 8, 60]))
@@ -256,7 +258,7 @@ def compare_own(setup, question, worst, pair):
     for _ in range(8):
         compare(setup, changed(rng, head, tree), "changed")
     for _ in range(2):
-        less = lesser(rng, circuit, question, worst, tree)
+        less = lesser(setup, question, worst, tree)
         if less:
             compare(setup, less, "a lesser claim")
 

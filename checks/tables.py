@@ -186,7 +186,7 @@ def by_hostile(tested):
     names = ["a lemma that shows itself", "a variable of no net", "a span as late as a number"]
     words = ["hostile", "--only", ",".join(names)]
     status, rows, text = lists(tested, *words, tested.program)
-    wanted = [f"`refused 10 BadStep line {line}`" for line in (13, 12)] + ["`accepted 1`"]
+    wanted = [f"`refused 10 BadStep line {line}`" for line in (17, 16)] + ["`accepted 1`"]
     found = [cells[0] for cells in rows], [cells[2] for cells in rows]
     tested.expect(f"{text}what is answered", (0, (names, wanted)), (status, found))
     status, _, text = lists(tested, *words, lie(tested, "refuses"))

@@ -1,8 +1,8 @@
 #!/usr/bin/env python3
-"""A second opinion on certificates of `tdelay worst` (versions 1 to 5), and on the runs of `tdelay
+"""A second opinion on certificates of `tdelay worst` (versions 1 to 4), and on the runs of `tdelay
 sim` and `tdelay path`.
 
-    second_opinion.py check FILE CERT [--default-rise N] [--default-fall N]
+    second_opinion.py check FILE CERT [--output NAME] [--default-rise N] [--default-fall N]
     second_opinion.py sim FILE FROM TO [--at M,M,..] [--default-rise N] [--default-fall N]
     second_opinion.py path FILE FROM TO [--output NAME] [--at M,M,..] [--default-rise N] [..]
 
@@ -38,14 +38,18 @@ DIGITS = "0123456789"
 
 # What is asked: a cube of pins, for each input whether it is held, the flips, and the moments.
 Question = namedtuple("Question", "pins held flips moments")
+# How the netlist is read that is asked about: the default delays, and the numbers of the outputs,
+# None for all.
+Terms = namedtuple("Terms", "defaults outputs")
 # A line of a tree; the number of a split is its position. The lines of a leaf by spans stand there
 # one by one, each but its ends with the text of its numbers.
 Line = namedtuple("Line", "letter domain number")
 # Such a line as it mostly stands in a text, and what it may not have.
 INNER = re.compile(rf"[{VARIABLES}{STEPS}][0-9 ]*\n")
 ODD = re.compile(r"\A.[0-9]|  | \n| 0[0-9]|[0-9]{19}")
-# `asked` are the lines of the question as they stand in the text, and `pair` is a cube.
-Certificate = namedtuple("Certificate", "inputs gates question asked time pair tree")
+# `asked` are the lines of the question as they stand in the text, and `pair` is a cube. `terms` are
+# None where the text tells none.
+Certificate = namedtuple("Certificate", "inputs gates terms question asked time high pair tree")
 
 
 def levels_of(symbols):
@@ -116,12 +120,29 @@ def version_in(text):
     """The number in line 1, which the whole run of digits decides."""
     text.word("tdelay-cert ")
     run = re.compile("[0-9]*").match(text.text, text.place).group()
-    if run not in ("1", "2", "3", "4", "5"):
+    if run not in ("1", "2", "3", "4"):
         text.one_of(DIGITS)
         of_none = Fault.NumberTooLarge if len(run) > 19 or int(run) > LARGEST else Fault.Version
         text.fault(Fault.Syntax if run[0] == "0" != run else of_none)
     text.word(run + "\n")
     return int(run)
+
+
+def terms_in(text):
+    """The lines `default` and `output` of version 4."""
+    defaults = Delays(
+        text.number("default ", " ", BILLION, Fault.Syntax, 1),
+        text.number("", "\n", BILLION, Fault.Syntax, 1),
+    )
+    text.word("output ")
+    if text.text.startswith("a", text.place):
+        text.word("all\n")
+        return Terms(defaults, None)
+    outputs, end = [], " "
+    while end == " ":
+        outputs.append(text.number("", " \n"))
+        end = text.text[text.place - 1]
+    return Terms(defaults, outputs)
 
 
 def moments_in(text, version, inputs):
@@ -170,30 +191,24 @@ def lines_of_leaf(text):
         lines.append(Line(letter, None, text.numbers()))
 
 
-# The letters with which lines of a tree begin, by the version; and those with which a leaf of the
-# version's own begins, one of which there has to be, and its domains.
-LETTERS = {1: "sbp", 2: "sbpn", 3: "sbpn", 4: "sbpn", 5: "sbpnx"}
-OWN = {4: ("sb", "en"), 5: ("sx", "")}
+# The letters with which lines of a tree begin, by the version, and those of its domains.
+LETTERS = {1: "sbp", 2: "sbpn", 3: "sbpn", 4: "sbpnx"}
+DOMAINS = {1: "atm", 2: "atm", 3: "atm", 4: "atmen"}
 
 
 def tree_in(text, version):
     """The lines of the tree, where a leaf without a bound has no domain, and `none` and `x` no
     number.
     """
-    lines, to_come, has_own = [], 1, version not in OWN
+    lines, to_come = [], 1
     while to_come:
-        last = to_come == 1 and not has_own
-        letters, domains = (
-            OWN[version] if last else (LETTERS[version], "atm" if version < 4 else "atmen")
-        )
-        letter = text.one_of(letters)
+        letter = text.one_of(LETTERS[version])
         text.word({"n": "one\n", "x": "\n"}.get(letter, " "))
-        domain = text.one_of(domains) if letter == "b" else None
+        domain = text.one_of(DOMAINS[version]) if letter == "b" else None
         number = None if letter in "nx" else text.number(" " if domain else "", "\n")
         lines.append(Line(letter, domain, number))
         if letter == "x":
             lines += lines_of_leaf(text)
-        has_own = has_own or letter == "x" or version == 4 and domain in ("e", "n")
         to_come += 1 if letter == "s" else -1
     return lines
 
@@ -207,11 +222,16 @@ def read_certificate(text):
     inputs = text.number("circuit ", " ", 4096, least=version in (2, 3))
     gates = text.number("", "\n", 200_000)
     begin = text.place
+    terms = terms_in(text) if version == 4 else None
     question = question_in(text, version, inputs)
+    if version == 4:
+        text.word("keep none\n")
     asked = text.text[begin : text.place]
     time = text.number("time ", "\n")
+    high = text.number("high ", "\n") if version == 4 else time
     pair = woven(*(levels_of(text.symbols(front, "01", inputs)) for front in ("from ", "to ")))
-    certificate = Certificate(inputs, gates, question, asked, time, pair, tree_in(text, version))
+    tree = tree_in(text, version)
+    certificate = Certificate(inputs, gates, terms, question, asked, time, high, pair, tree)
     if text.place < len(text.text):
         text.fault(Fault.Trailing)
     return certificate
@@ -222,7 +242,7 @@ def read_certificate(text):
 Verdict = Enum(
     "Verdict",
     "Accepted PairTime LeafBound LeafAboveTime BadPosition NotAPoint OtherCircuit "
-    "PairNotAdmitted LeafNotEmpty BadStep",
+    "PairNotAdmitted LeafNotEmpty BadStep OtherQuestion",
 )
 BITS = ({0}, {1}, {0, 1})
 
@@ -238,11 +258,11 @@ def has_admitted(question, cube):
     return all(allowed) and not any(flips) and len(flips) <= question.flips
 
 
-def judge_in_leaf(leaf, time, line):
+def judge_in_leaf(leaf, high, line):
     """What is wrong with a line of a leaf by spans, None where nothing is."""
     letter, _, number = line
     if letter == "q":
-        late = Verdict.LeafAboveTime if number > time else None
+        late = Verdict.LeafAboveTime if number > high else None
         return late if leaf.is_within(number) else Verdict.LeafBound
     try:
         return leaf.line(letter, [int(word) for word in number.split()])
@@ -250,7 +270,7 @@ def judge_in_leaf(leaf, time, line):
         return Verdict.BadStep
 
 
-def judge_line(circuit, question, time, cube, line):
+def judge_line(circuit, question, high, cube, line):
     """What is wrong with another line of the tree, None where nothing is."""
     letter, domain, number = line
     if letter == "x":
@@ -266,26 +286,33 @@ def judge_line(circuit, question, time, cube, line):
     else:
         least = bound(domain, circuit, cube, question.moments)
         good = least is not None and number >= least
-    return Verdict.LeafBound if not good else Verdict.LeafAboveTime if number > time else None
+    return Verdict.LeafBound if not good else Verdict.LeafAboveTime if number > high else None
 
 
-def verdict(circuit, certificate):
-    """The verdict, and its line or None."""
-    question, time = certificate.question, certificate.time
+def first_line(certificate):
+    """The line of the text on which the tree begins."""
+    return 6 + certificate.asked.count("\n") + (certificate.terms is not None)
+
+
+def verdict(circuit, told, certificate):
+    """The verdict where the checker was told these terms, and its line or None."""
+    question, high, terms = certificate.question, certificate.high, certificate.terms
     if (circuit.inputs, len(circuit.gates)) != (certificate.inputs, certificate.gates):
         return Verdict.OtherCircuit, None
+    if terms and terms != told:
+        return Verdict.OtherQuestion, 3 if terms.defaults != told.defaults else 4
     if not has_admitted(question, certificate.pair):
         return Verdict.PairNotAdmitted, None
-    if delay_of_pair(circuit, certificate.pair, question.moments) != time:
+    if delay_of_pair(circuit, certificate.pair, question.moments) != certificate.time:
         return Verdict.PairTime, None
     cubes, leaf = [question.pins], None
-    for number, line in enumerate(certificate.tree, 6 + certificate.asked.count("\n")):
+    for number, line in enumerate(certificate.tree, first_line(certificate)):
         if leaf:
-            wrong = judge_in_leaf(leaf, time, line)
+            wrong = judge_in_leaf(leaf, high, line)
             leaf = None if line.letter == "q" else leaf
         else:
             cube = cubes.pop()
-            wrong = judge_line(circuit, question, time, cube, line)
+            wrong = judge_line(circuit, question, high, cube, line)
             leaf = Leaf(circuit, question, cube) if line.letter == "x" else None
         if wrong:
             return wrong, number
@@ -311,17 +338,22 @@ def told(work):
         return "", f"tdelay: {message}\n", status
 
 
-def check(circuit, text):
-    """`check` of a certificate's text."""
+def check(circuit, defaults, output, text):
+    """`check` of a certificate's text, of all outputs or the one of a name."""
+    outputs = None
+    if output is not None:
+        outputs = [it for it, net in enumerate(circuit.outputs) if circuit.nets[net] == output][:1]
+        if not outputs:
+            raise Refusal("no output of this name", 2)
+        circuit = circuit._replace(outputs=[circuit.outputs[outputs[0]]])
     certificate = read_certificate(text)
-    found, line = verdict(circuit, certificate)
+    found, line = verdict(circuit, Terms(defaults, outputs), certificate)
     if found == Verdict.Accepted:
-        return report([f"accepted {certificate.time}"]) + certificate.asked, "", 0
-    return (
-        report([f"refused {found.value} {found.name}" + (f" line {line}" if line else "")]),
-        "",
-        4,
-    )
+        time, high = certificate.time, certificate.high
+        claim = f"accepted {time}" if time == high else f"accepted between {time} {high}"
+        return report([claim]) + certificate.asked, "", 0
+    place = f" line {line}" if line else ""
+    return report([f"refused {found.value} {found.name}{place}"]), "", 4
 
 
 def vector_of(name, word, count):
@@ -430,7 +462,8 @@ def command_line():
             sub.add_argument(f"--default-{change}", type=delay_in, default=1, metavar="N")
     for command in ("sim", "path"):
         commands.choices[command].add_argument("--at", metavar="M,M,..")
-    commands.choices["path"].add_argument("--output", metavar="NAME")
+    for command in ("check", "path"):
+        commands.choices[command].add_argument("--output", metavar="NAME")
     return parser
 
 
@@ -451,7 +484,7 @@ def answer(asked):
     if asked.command == "path":
         return path(read_circuit(netlist, defaults), asked.FROM, asked.TO, asked.at, asked.output)
     certificate = bytes_of(asked.CERT)
-    return check(read_circuit(netlist, defaults), certificate)
+    return check(read_circuit(netlist, defaults), defaults, asked.output, certificate)
 
 
 def main():

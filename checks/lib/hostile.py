@@ -8,15 +8,19 @@ from collections import namedtuple
 from . import measuring, netlists
 from .table import number, seconds_of
 
-# The lines of a certificate of version 5 before its tree, for a netlist with one input.
-HEAD = """tdelay-cert 5
+# The lines of a certificate of version 4 before its tree, for a netlist with one input.
+HEAD = """tdelay-cert 4
 circuit 1 {gates}
+default 1 1
+output all
 first .
 second .
 hold .
 flips 1
 at 0
+keep none
 time 1
+high 1
 from 0
 to 1
 """
@@ -59,28 +63,28 @@ CASES = {
     "a wide gate's ends taken again": Case(WIDE, [("r 4\n", 100_000)], *ACCEPTED),
     "a gate's longest clauses": Case(SMALL, [(LONG, 1), (CLAUSE, 100)], *ACCEPTED),
     "a gate's clause that is too long": Case(
-        SMALL, [(LONGER + TOO_LONG, 1)], *refused(13 + LITERALS)
+        SMALL, [(LONGER + TOO_LONG, 1)], *refused(17 + LITERALS)
     ),
     "a lemma of a hundred million literals": Case(
         SMALL, [("f 2\nu 0 1\nl 100000001 1", 1), (" 0", 100_000_001), ("\n", 1)], *ACCEPTED
     ),
     "a line of a hundred million hints": Case(
-        SMALL, [("f 2\nu 0 1\nl 1 0", 1), (" 0", 100_000_000), ("\n", 1)], *refused(14)
+        SMALL, [("f 2\nu 0 1\nl 1 0", 1), (" 0", 100_000_000), ("\n", 1)], *refused(18)
     ),
     "a number of a hundred million digits": Case(
         SMALL, [("l ", 1), ("9", 100_000_000), ("\n", 1)], 1,
-        "tdelay: certificate fault 4 NumberTooLarge at line 12",
+        "tdelay: certificate fault 4 NumberTooLarge at line 16",
     ),
-    "a lemma that shows itself": Case(SMALL, [("f 2\nl 1 0 0\n", 1)], *refused(13)),
-    "lemmas that show each other": Case(SMALL, [("f 2\nl 1 0 1\nl 1 1 0\n", 1)], *refused(13)),
-    "a literal of no variable": Case(SMALL, [(f"l 1 {MOST} 0\n", 1)], *refused(12)),
-    "a variable of no net": Case(SMALL, [(f"f {MOST}\n", 1)], *refused(12)),
-    "more literals than numbers": Case(SMALL, [(f"l {MOST} 0 0\n", 1)], *refused(12)),
+    "a lemma that shows itself": Case(SMALL, [("f 2\nl 1 0 0\n", 1)], *refused(17)),
+    "lemmas that show each other": Case(SMALL, [("f 2\nl 1 0 1\nl 1 1 0\n", 1)], *refused(17)),
+    "a literal of no variable": Case(SMALL, [(f"l 1 {MOST} 0\n", 1)], *refused(16)),
+    "a variable of no net": Case(SMALL, [(f"f {MOST}\n", 1)], *refused(16)),
+    "more literals than numbers": Case(SMALL, [(f"l {MOST} 0 0\n", 1)], *refused(16)),
     "a span as late as a number": Case(
         SMALL, [(f"w 3 1 {MOST}\nw 2 1 1\ng 0 3\n", 1)], *ACCEPTED
     ),
     "a span after all numbers": Case(
-        SMALL, [(f"w 3 1 {MOST}\nw 2 1 {MOST}\ng 0 3\n", 1)], *refused(14)
+        SMALL, [(f"w 3 1 {MOST}\nw 2 1 {MOST}\ng 0 3\n", 1)], *refused(18)
     ),
     "more flips than inputs": Case(SMALL, [(f"c 1 {MOST}\nu 1\n", 1)], *ACCEPTED),
 }

@@ -64,7 +64,7 @@ class Runs:
 def leaves_of(circuit, certificate, until):
     """The cube and the lines of each leaf by spans before a line of the text, all where it is 0."""
     cubes, lines = [certificate.question.pins], None
-    first = 6 + certificate.asked.count("\n")
+    first = opinion.first_line(certificate)
     for line in certificate.tree[: until - first if until else None]:
         if lines is None:
             cube = cubes.pop()

@@ -28,7 +28,7 @@ The first line.
   > 5 Version at line 1|tdelay-cert 6/circuit 1 1/
   > 5 Version at line 1|tdelay-cert 20/
   > 5 Version at line 1|tdelay-cert 6x
-  > 1 Syntax at line 1|tdelay-cert 5x
+  > 5 Version at line 1|tdelay-cert 5x
   > 5 Version at line 1|tdelay-cert 0
   > 5 Version at line 1|tdelay-cert 10/
   > 5 Version at line 1|tdelay-cert 12
@@ -138,39 +138,62 @@ A question. All pairs are admitted where the first version would say so, and a m
   > END
   37 rows
 
-A leaf may be bounded by edges in the fourth version alone, and the last one has to be where none has been.
+The fourth version tells the default delays, the outputs and the bound too, and it alone has leaves by edges and by spans. A text of a
+draft of it is none.
 
   $ bash rows <<'END'
   > 1 Syntax at line 6|tdelay-cert 1/circuit 1 1/time 3/from 0/to 1/b e
   > 1 Syntax at line 6|tdelay-cert 1/circuit 1 1/time 3/from 0/to 1/b n
   > 1 Syntax at line 10|tdelay-cert 2/circuit 1 1/first ./second ./hold ./flips 0/time 0/from 0/to 0/b e
   > 1 Syntax at line 11|tdelay-cert 3/circuit 1 1/first ./second ./hold ./flips 1/at 7/time 3/from 0/to 1/b n
+  > 5 Version at line 1|tdelay-cert 5/circuit 1 1/first ./second ./hold ./flips 1/at 0/time 3/from 0/to 1/x/q 3/
+  > 1 Syntax at line 3|tdelay-cert 4/circuit 1 1/first ./second ./hold ./flips 1/at 0/time 3/from 0/to 1/b e 3/
   > 1 Syntax at line 3|tdelay-cert 4/circuit 1 1/time
   > 2 UnexpectedEnd at line 2|tdelay-cert 4/circuit 0\x20
-  > 1 Syntax at line 3|tdelay-cert 4/circuit 0 1/first /
-  > 2 UnexpectedEnd at line 7|tdelay-cert 4/circuit 0 1/first none/second none/hold none/flips 0/at n
-  > 1 Syntax at line 7|tdelay-cert 4/circuit 0 1/first none/second none/hold none/flips 0/at 0
-  > 1 Syntax at line 3|tdelay-cert 4/circuit 1 1/first none
-  > 1 Syntax at line 6|tdelay-cert 4/circuit 1 1/first ./second ./hold ./flips 2
-  > 2 UnexpectedEnd at line 7|tdelay-cert 4/circuit 1 1/first ./second ./hold ./flips 1/at 0
-  > 1 Syntax at line 7|tdelay-cert 4/circuit 1 1/first ./second ./hold ./flips 1/at none
-  > 1 Syntax at line 7|tdelay-cert 4/circuit 1 1/first ./second ./hold ./flips 1/time
-  > 2 UnexpectedEnd at line 11|tdelay-cert 4/circuit 1 1/first ./second ./hold ./flips 1/at 0/time 3/from 0/to 1/b\x20
-  > 1 Syntax at line 11|tdelay-cert 4/circuit 1 1/first ./second ./hold ./flips 1/at 0/time 3/from 0/to 1/b a
-  > 1 Syntax at line 11|tdelay-cert 4/circuit 1 1/first ./second ./hold ./flips 1/at 0/time 3/from 0/to 1/p
-  > 1 Syntax at line 11|tdelay-cert 4/circuit 1 1/first ./second ./hold ./flips 1/at 0/time 3/from 0/to 1/n
-  > 1 Syntax at line 11|tdelay-cert 4/circuit 1 1/first ./second ./hold ./flips 1/at 0/time 3/from 0/to 1/b x
-  > 2 UnexpectedEnd at line 13|tdelay-cert 4/circuit 1 1/first ./second ./hold ./flips 1/at 0/time 3/from 0/to 1/s 0/b a 3/
-  > 1 Syntax at line 13|tdelay-cert 4/circuit 1 1/first ./second ./hold ./flips 1/at 0/time 3/from 0/to 1/s 0/b a 3/b m
-  > 1 Syntax at line 13|tdelay-cert 4/circuit 1 1/first ./second ./hold ./flips 1/at 0/time 3/from 0/to 1/s 0/none/none/
-  > 2 UnexpectedEnd at line 14|tdelay-cert 4/circuit 1 1/first ./second ./hold ./flips 1/at 0/time 3/from 0/to 1/s 0/b t 3/s 1/
-  > 1 Syntax at line 15|tdelay-cert 4/circuit 1 1/first ./second ./hold ./flips 1/at 0/time 3/from 0/to 1/s 0/b t 3/s 1/p 0/p 3/
-  > read|tdelay-cert 4/circuit 1 1/first ./second ./hold ./flips 1/at 0/time 3/from 0/to 1/s 0/b n 3/none/
-  > read|tdelay-cert 4/circuit 1 1/first ./second ./hold ./flips 1/at 0/time 3/from 0/to 1/s 0/p 3/b e 3/
-  > 3 Trailing at line 12|tdelay-cert 4/circuit 1 1/first ./second ./hold ./flips 1/at 0/time 3/from 0/to 1/b e 3/b e 3/
-  > 4 NumberTooLarge at line 11|tdelay-cert 4/circuit 1 1/first ./second ./hold ./flips 1/at 0/time 3/from 0/to 1/b e 1000000000000000001
+  > 2 UnexpectedEnd at line 3|tdelay-cert 4/circuit 1 1/default\x20
+  > 1 Syntax at line 3|tdelay-cert 4/circuit 1 1/default 0
+  > 1 Syntax at line 3|tdelay-cert 4/circuit 1 1/default 01 1/
+  > 2 UnexpectedEnd at line 3|tdelay-cert 4/circuit 1 1/default 1000000000
+  > 1 Syntax at line 3|tdelay-cert 4/circuit 1 1/default 1000000001
+  > 1 Syntax at line 3|tdelay-cert 4/circuit 1 1/default 1/
+  > 1 Syntax at line 3|tdelay-cert 4/circuit 1 1/default 1 0
+  > 1 Syntax at line 3|tdelay-cert 4/circuit 1 1/default 1 1 1/
+  > 2 UnexpectedEnd at line 4|tdelay-cert 4/circuit 1 1/default 1000000000 1000000000/
+  > 1 Syntax at line 4|tdelay-cert 4/circuit 1 1/default 1 1/first
+  > 2 UnexpectedEnd at line 4|tdelay-cert 4/circuit 1 1/default 1 1/output a
+  > 1 Syntax at line 4|tdelay-cert 4/circuit 1 1/default 1 1/output al1
+  > 1 Syntax at line 4|tdelay-cert 4/circuit 1 1/default 1 1/output none/
+  > 1 Syntax at line 4|tdelay-cert 4/circuit 1 1/default 1 1/output /
+  > 2 UnexpectedEnd at line 4|tdelay-cert 4/circuit 1 1/default 1 1/output 0
+  > 1 Syntax at line 4|tdelay-cert 4/circuit 1 1/default 1 1/output 00
+  > 1 Syntax at line 4|tdelay-cert 4/circuit 1 1/default 1 1/output 0  1/
+  > 1 Syntax at line 4|tdelay-cert 4/circuit 1 1/default 1 1/output 0 /
+  > 4 NumberTooLarge at line 4|tdelay-cert 4/circuit 1 1/default 1 1/output 1000000000000000001
+  > 2 UnexpectedEnd at line 5|tdelay-cert 4/circuit 1 1/default 1 1/output 7 0 7/
+  > 1 Syntax at line 5|tdelay-cert 4/circuit 1 1/default 1 1/output all/first none
+  > 1 Syntax at line 8|tdelay-cert 4/circuit 1 1/default 1 1/output all/first ./second ./hold ./flips 2
+  > 2 UnexpectedEnd at line 9|tdelay-cert 4/circuit 1 1/default 1 1/output all/first ./second ./hold ./flips 1/at 0
+  > 1 Syntax at line 9|tdelay-cert 4/circuit 1 1/default 1 1/output all/first ./second ./hold ./flips 1/at none
+  > 1 Syntax at line 10|tdelay-cert 4/circuit 1 1/default 1 1/output all/first ./second ./hold ./flips 1/at 0/time
+  > 2 UnexpectedEnd at line 10|tdelay-cert 4/circuit 1 1/default 1 1/output all/first ./second ./hold ./flips 1/at 0/keep n
+  > 1 Syntax at line 10|tdelay-cert 4/circuit 1 1/default 1 1/output all/first ./second ./hold ./flips 1/at 0/keep 3 .1/
+  > 1 Syntax at line 11|tdelay-cert 4/circuit 1 1/default 1 1/output all/first ./second ./hold ./flips 1/at 0/keep none/high
+  > 1 Syntax at line 12|tdelay-cert 4/circuit 1 1/default 1 1/output all/first ./second ./hold ./flips 1/at 0/keep none/time 3/from
+  > 4 NumberTooLarge at line 12|tdelay-cert 4/circuit 1 1/default 1 1/output all/first ./second ./hold ./flips 1/at 0/keep none/time 3/high 1000000000000000001
+  > 2 UnexpectedEnd at line 13|tdelay-cert 4/circuit 1 1/default 1 1/output all/first ./second ./hold ./flips 1/at 0/keep none/time 3/high 3/
+  > 1 Syntax at line 5|tdelay-cert 4/circuit 0 1/default 1 1/output all/first /
+  > 2 UnexpectedEnd at line 9|tdelay-cert 4/circuit 0 1/default 1 1/output all/first none/second none/hold none/flips 0/at n
+  > 1 Syntax at line 9|tdelay-cert 4/circuit 0 1/default 1 1/output all/first none/second none/hold none/flips 0/at 0
+  > 1 Syntax at line 15|tdelay-cert 4/circuit 1 1/default 1 1/output all/first ./second ./hold ./flips 1/at 0/keep none/time 3/high 3/from 0/to 1/b x
+  > read|tdelay-cert 4/circuit 1 1/default 1 1/output all/first ./second ./hold ./flips 1/at 0/keep none/time 3/high 3/from 0/to 1/b a 3/
+  > read|tdelay-cert 4/circuit 1 1/default 1 1/output all/first ./second ./hold ./flips 1/at 0/keep none/time 3/high 3/from 0/to 1/p 3/
+  > read|tdelay-cert 4/circuit 1 1/default 1 1/output all/first ./second ./hold ./flips 1/at 0/keep none/time 3/high 3/from 0/to 1/none/
+  > 2 UnexpectedEnd at line 17|tdelay-cert 4/circuit 1 1/default 1 1/output all/first ./second ./hold ./flips 1/at 0/keep none/time 3/high 3/from 0/to 1/s 0/b a 3/
+  > 2 UnexpectedEnd at line 18|tdelay-cert 4/circuit 1 1/default 1 1/output all/first ./second ./hold ./flips 1/at 0/keep none/time 3/high 3/from 0/to 1/s 0/b t 3/s 1/
+  > 3 Trailing at line 16|tdelay-cert 4/circuit 1 1/default 1 1/output all/first ./second ./hold ./flips 1/at 0/keep none/time 3/high 3/from 0/to 1/b e 3/b e 3/
+  > 4 NumberTooLarge at line 15|tdelay-cert 4/circuit 1 1/default 1 1/output all/first ./second ./hold ./flips 1/at 0/keep none/time 3/high 3/from 0/to 1/b e 1000000000000000001
   > END
-  28 rows
+  50 rows
 
 A leaf that is missing, and one too many.
 

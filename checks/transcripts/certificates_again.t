@@ -26,9 +26,9 @@ each version, with each kind of line; so is one of the most inputs and of many l
   again
   $ bash again.sh 3 1 'tdelay-cert 3/circuit 3 1/first 0.1/second 1../hold .=./flips 0/at 0 1000000000 0/time 0/from 000/to 100/p 0/'
   again
-  $ bash again.sh 2 3 'tdelay-cert 4/circuit 2 3/first ../second ../hold ../flips 1/at 0 7/time 5/from 01/to 11/s 0/s 1/b a 3/s 2/p 2/b n 4/s 3/none/b e 5/'
+  $ bash again.sh 2 3 'tdelay-cert 4/circuit 2 3/default 1 1/output all/first ../second ../hold ../flips 1/at 0 7/keep none/time 5/high 5/from 01/to 11/s 0/s 1/b a 3/s 2/p 2/b n 4/s 3/none/b e 5/'
   again
-  $ bash again.sh 2 3 'tdelay-cert 4/circuit 2 3/first .0/second ../hold .=/flips 1/at 0 7/time 5/from 01/to 11/s 0/b a 3/s 2/p 2/s 3/none/b e 5/'
+  $ bash again.sh 2 3 'tdelay-cert 4/circuit 2 3/default 1 1/output all/first .0/second ../hold .=/flips 1/at 0 7/keep none/time 5/high 5/from 01/to 11/s 0/b a 3/s 2/p 2/s 3/none/b e 5/'
   again
 
 A version is the least that the lines need: another one is no text of a certificate that is written.

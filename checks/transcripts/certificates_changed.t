@@ -17,8 +17,8 @@ time, the pair that has it, and the tree; a slash stands for the end of a line.
   > module t(a, b, y); input a, b; output y; buf #4 s(t,a); or #1 g(y,b,t); endmodule|tdelay-cert 2/circuit 2 2/first .1/second .1/hold ../flips 2/|0|01|11|b a 0/
   > module t(a, y); input a; output y; not #1 n(b,a); and #1 g(y,a,b); endmodule|tdelay-cert 3/circuit 1 2/first ./second ./hold ./flips 1/at 7/|9|0|1|b a 9/
   > module t(a, b, y); input a, b; output y; and #2 g(y,a,b); endmodule|tdelay-cert 3/circuit 2 1/first ../second ../hold ../flips 2/at 0 2/|4|00|11|b a 4/
-  > module t(a, y); input a; output y; not #(2,3) g(y,a); endmodule|tdelay-cert 4/circuit 1 1/first ./second ./hold ./flips 1/at 0/|3|0|1|s 0/b e 3/b n 2/
-  > module t(a, y); input a; output y; not #(2,3) g(y,a); endmodule|tdelay-cert 4/circuit 1 1/first ./second ./hold ./flips 1/at 7/|10|0|1|s 0/b n 10/b e 9/
+  > module t(a, y); input a; output y; not #(2,3) g(y,a); endmodule|tdelay-cert 4/circuit 1 1/default 1 1/output all/first ./second ./hold ./flips 1/at 0/keep none/|3|0|1|s 0/b e 3/b n 2/
+  > module t(a, y); input a; output y; not #(2,3) g(y,a); endmodule|tdelay-cert 4/circuit 1 1/default 1 1/output all/first ./second ./hold ./flips 1/at 7/keep none/|10|0|1|s 0/b n 10/b e 9/
   > END
   $ cat > lines <<'END'
   > # What the scripts below have in common.
@@ -31,7 +31,9 @@ time, the pair that has it, and the tree; a slash stands for the end of a line.
   > begin() {
   >   printf '%b' "${netlist//\//\\n}" > t.v
   >   IFS=/ read -ra lines <<< "$tree"
-  >   head="${front}time $1/from $from/to $2/"
+  >   high=
+  >   [[ $front = 'tdelay-cert 4/'* ]] && high="high $1/"
+  >   head="${front}time $1/${high}from $from/to $2/"
   >   ends=${head//[!\/]/}
   > }
   > # changed PLACE LINE: the certificate with this line at a place of the tree.

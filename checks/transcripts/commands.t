@@ -78,7 +78,7 @@ Help and the version go to standard output. A line with a dot alone stands for a
   Example:
     tdelay sim c17.v 00000 11111 --vcd c17.vcd
   $ tdelay --version
-  tdelay 1 (reads certificates of versions 1 to 5)
+  tdelay 1 (reads certificates of versions 1 to 4)
   $ tdelay --help 2>&1 >/dev/null; tdelay sim --help 2>&1 >/dev/null; tdelay --version 2>&1 >/dev/null
 
 Command lines that are refused: it is told why, nothing goes to standard output, and the status is 2.

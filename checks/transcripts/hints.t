@@ -522,7 +522,7 @@ Each verdict but for `Accepted`.
   [4]
   $ bash hint.sh inverter.v 'tdelay-cert 1/circuit 1 1/time 3/from 0/to 1/b a 4/'
   refused 4 LeafAboveTime line 6
-  c:6: a leaf's number is greater than the certificate's time
+  c:6: a leaf's number is greater than the certificate's time, or than the number of its line high
     help: the certificate is wrong: search again
   [4]
   $ bash hint.sh inverter.v 'tdelay-cert 1/circuit 1 1/time 3/from 0/to 1/s 2/b a 3/b a 3/'
@@ -551,59 +551,65 @@ Each verdict but for `Accepted`.
     help: the certificate is wrong: search again
   [4]
 
+  $ bash hint.sh inverter.v 'tdelay-cert 4/circuit 1 1/default 1 2/output all/first ./second ./hold ./flips 1/at 0/keep none/time 3/high 3/from 0/to 1/b a 3/'
+  refused 11 OtherQuestion line 3
+  c:3: it is about other default delays, or about other outputs
+    help: give the --default-rise, --default-fall and --output of its search: its line tells them
+  [4]
+
 Each reason for the verdict `BadStep`.
 
   $ printf 'module t(a, y); input a; output y; buf #1 p(b,a); and #(1,4) g(y,a,b); endmodule\n' > early.v
   $ tdelay check inverter.v <(cat head tail) --hints
   accepted 3
-  $ bash hint.sh early.v 'tdelay-cert 5/circuit 1 2/first ./second ./hold ./flips 1/at 0/time 4/from 1/to 0/x/f 2 0/q 5/'
-  refused 10 BadStep line 12
-  c:12: a line with too few numbers, too many, or one that is out of range
+  $ bash hint.sh early.v 'tdelay-cert 4/circuit 1 2/default 1 1/output all/first ./second ./hold ./flips 1/at 0/keep none/time 4/high 4/from 1/to 0/x/f 2 0/q 5/'
+  refused 10 BadStep line 16
+  c:16: a line with too few numbers, too many, or one that is out of range
     help: check it with the netlist, the default delays and the --output that it was made for; else make it again
   [4]
-  $ bash hint.sh early.v 'tdelay-cert 5/circuit 1 2/first ./second ./hold ./flips 1/at 0/time 4/from 1/to 0/x/f 5/q 5/'
-  refused 10 BadStep line 12
-  c:12: a line with too few numbers, too many, or one that is out of range
+  $ bash hint.sh early.v 'tdelay-cert 4/circuit 1 2/default 1 1/output all/first ./second ./hold ./flips 1/at 0/keep none/time 4/high 4/from 1/to 0/x/f 5/q 5/'
+  refused 10 BadStep line 16
+  c:16: a line with too few numbers, too many, or one that is out of range
     help: check it with the netlist, the default delays and the --output that it was made for; else make it again
   [4]
-  $ bash hint.sh early.v 'tdelay-cert 5/circuit 1 2/first ./second ./hold ./flips 1/at 0/time 4/from 1/to 0/x/w 4 0 2 1/q 5/'
-  refused 10 BadStep line 12
-  c:12: a line with too few numbers, too many, or one that is out of range
+  $ bash hint.sh early.v 'tdelay-cert 4/circuit 1 2/default 1 1/output all/first ./second ./hold ./flips 1/at 0/keep none/time 4/high 4/from 1/to 0/x/w 4 0 2 1/q 5/'
+  refused 10 BadStep line 16
+  c:16: a line with too few numbers, too many, or one that is out of range
     help: check it with the netlist, the default delays and the --output that it was made for; else make it again
   [4]
-  $ bash hint.sh early.v 'tdelay-cert 5/circuit 1 2/first ./second ./hold ./flips 1/at 0/time 4/from 1/to 0/x/c 2 0/q 5/'
-  refused 10 BadStep line 12
-  c:12: a line with too few numbers, too many, or one that is out of range
+  $ bash hint.sh early.v 'tdelay-cert 4/circuit 1 2/default 1 1/output all/first ./second ./hold ./flips 1/at 0/keep none/time 4/high 4/from 1/to 0/x/c 2 0/q 5/'
+  refused 10 BadStep line 16
+  c:16: a line with too few numbers, too many, or one that is out of range
     help: check it with the netlist, the default delays and the --output that it was made for; else make it again
   [4]
-  $ bash hint.sh early.v 'tdelay-cert 5/circuit 1 2/first ./second ./hold ./flips 1/at 0/time 4/from 1/to 0/x/e 4 2 5 0/q 5/'
-  refused 10 BadStep line 12
-  c:12: a line with too few numbers, too many, or one that is out of range
+  $ bash hint.sh early.v 'tdelay-cert 4/circuit 1 2/default 1 1/output all/first ./second ./hold ./flips 1/at 0/keep none/time 4/high 4/from 1/to 0/x/e 4 2 5 0/q 5/'
+  refused 10 BadStep line 16
+  c:16: a line with too few numbers, too many, or one that is out of range
     help: check it with the netlist, the default delays and the --output that it was made for; else make it again
   [4]
-  $ bash hint.sh early.v 'tdelay-cert 5/circuit 1 2/first ./second ./hold ./flips 1/at 0/time 4/from 1/to 0/x/f 2/r 4/f 3/q 5/'
-  refused 10 BadStep line 14
-  c:14: a variable after a step
+  $ bash hint.sh early.v 'tdelay-cert 4/circuit 1 2/default 1 1/output all/first ./second ./hold ./flips 1/at 0/keep none/time 4/high 4/from 1/to 0/x/f 2/r 4/f 3/q 5/'
+  refused 10 BadStep line 18
+  c:18: a variable after a step
     help: check it with the netlist, the default delays and the --output that it was made for; else make it again
   [4]
-  $ bash hint.sh early.v 'tdelay-cert 5/circuit 1 2/first ./second ./hold ./flips 1/at 0/time 4/from 1/to 0/x/f 2/g 0/q 5/'
-  refused 10 BadStep line 13
-  c:13: a step that doesn't hold of this circuit
+  $ bash hint.sh early.v 'tdelay-cert 4/circuit 1 2/default 1 1/output all/first ./second ./hold ./flips 1/at 0/keep none/time 4/high 4/from 1/to 0/x/f 2/g 0/q 5/'
+  refused 10 BadStep line 17
+  c:17: a step that doesn't hold of this circuit
     help: check it with the netlist, the default delays and the --output that it was made for; else make it again
   [4]
-  $ bash hint.sh early.v 'tdelay-cert 5/circuit 1 2/first ./second ./hold ./flips 1/at 0/time 4/from 1/to 0/x/f 2/u 0/q 5/'
-  refused 10 BadStep line 13
-  c:13: a step that doesn't hold of this circuit
+  $ bash hint.sh early.v 'tdelay-cert 4/circuit 1 2/default 1 1/output all/first ./second ./hold ./flips 1/at 0/keep none/time 4/high 4/from 1/to 0/x/f 2/u 0/q 5/'
+  refused 10 BadStep line 17
+  c:17: a step that doesn't hold of this circuit
     help: check it with the netlist, the default delays and the --output that it was made for; else make it again
   [4]
-  $ bash hint.sh early.v 'tdelay-cert 5/circuit 1 2/first ./second ./hold ./flips 1/at 0/time 4/from 1/to 0/x/f 2/u 0 1/l 1 0 1/q 5/'
-  refused 10 BadStep line 14
-  c:14: a step that doesn't hold of this circuit
+  $ bash hint.sh early.v 'tdelay-cert 4/circuit 1 2/default 1 1/output all/first ./second ./hold ./flips 1/at 0/keep none/time 4/high 4/from 1/to 0/x/f 2/u 0 1/l 1 0 1/q 5/'
+  refused 10 BadStep line 18
+  c:18: a step that doesn't hold of this circuit
     help: check it with the netlist, the default delays and the --output that it was made for; else make it again
   [4]
-  $ bash hint.sh early.v 'tdelay-cert 5/circuit 1 2/first ./second ./hold ./flips 1/at 0/time 4/from 1/to 0/x/q 3/'
-  refused 3 LeafBound line 12
-  c:12: a leaf's number is less than the bound of its cube, or isn't the delay of its pair
+  $ bash hint.sh early.v 'tdelay-cert 4/circuit 1 2/default 1 1/output all/first ./second ./hold ./flips 1/at 0/keep none/time 4/high 4/from 1/to 0/x/q 3/'
+  refused 3 LeafBound line 16
+  c:16: a leaf's number is less than the bound of its cube, or isn't the delay of its pair
     help: check it with the netlist, the default delays and the --output of its search; else search again
   [4]
 

@@ -107,11 +107,19 @@ The netlist with one output: bounds, a search, its certificate, and parts of it.
   output y
   $ tdelay check two.v y.cert --output y
   accepted 2
+  default 1 1
+  output 0
+  first ..
+  second ..
+  hold ..
+  flips 2
+  at 0 0
+  keep none
   $ tdelay check two.v y.cert
-  refused 2 PairTime
+  refused 11 OtherQuestion line 4
   [4]
   $ tdelay check two.v y.cert --output z
-  refused 2 PairTime
+  refused 11 OtherQuestion line 4
   [4]
   $ tdelay parts two.v --parts 2 --output y
   --first 0. --second .. --output y
@@ -127,8 +135,16 @@ The netlist with one output: bounds, a search, its certificate, and parts of it.
   nodes 7
   $ tdelay check two.v all.cert --output y
   accepted 2
+  default 1 1
+  output 0
+  first ..
+  second ..
+  hold ..
+  flips 2
+  at 0 0
+  keep none
   $ tdelay join two.v 1.cert 2.cert --check
-  tdelay: 1.cert: refused 2 PairTime
+  tdelay: 1.cert: refused 11 OtherQuestion line 4
   [4]
 
 A name that no output has, after the faults of the text and before those of other words.

@@ -109,19 +109,19 @@ Two inverters: a change of the input to either level is one of the output to the
   > module t(y, a); output y; input a; not #(1,5) n(b,a); not #(1,5) g(y,b); endmodule
   > END
   $ bash rows buffer.v 'tdelay-cert ' <<'END'
-  > accepted 6|4/circuit 1 2/first ./second ./hold ./flips 1/at 0/time 6/from 0/to 1/b e 6/
-  > accepted 6|4/circuit 1 2/first ./second ./hold ./flips 1/at 0/time 6/from 0/to 1/b n 6/
-  > accepted 13|4/circuit 1 2/first ./second ./hold ./flips 1/at 7/time 13/from 0/to 1/b e 13/
-  > accepted 0|4/circuit 1 2/first ./second ./hold ./flips 0/at 0/time 0/from 0/to 0/s 0/s 1/b e 0/none/s 1/none/b n 0/
-  > refused 3 LeafBound line 11|4/circuit 1 2/first ./second ./hold ./flips 1/at 0/time 6/from 0/to 1/b e 5/
-  > refused 3 LeafBound line 11|4/circuit 1 2/first ./second ./hold ./flips 1/at 0/time 6/from 0/to 1/b n 5/
-  > refused 4 LeafAboveTime line 11|4/circuit 1 2/first ./second ./hold ./flips 1/at 0/time 6/from 0/to 1/b e 7/
-  > refused 3 LeafBound line 13|4/circuit 1 2/first ./second ./hold ./flips 1/at 0/time 6/from 0/to 1/s 0/b e 6/b a 6/
-  > refused 9 LeafNotEmpty line 13|4/circuit 1 2/first ./second ./hold ./flips 1/at 0/time 6/from 0/to 1/s 0/b e 6/none/
-  > refused 5 BadPosition line 12|4/circuit 1 2/first ./second ./hold ./flips 1/at 0/time 6/from 0/to 1/s 0/s 0/b e 6/b e 6/b e 6/
-  > refused 2 PairTime|4/circuit 1 2/first ./second ./hold ./flips 1/at 0/time 7/from 0/to 1/b e 7/
-  > refused 8 PairNotAdmitted|4/circuit 1 2/first 1/second ./hold ./flips 1/at 0/time 6/from 0/to 1/b e 6/
-  > refused 7 OtherCircuit|4/circuit 0 2/first none/second none/hold none/flips 0/at none/time 0/from none/to none/b e 0/
+  > accepted 6|4/circuit 1 2/default 1 1/output all/first ./second ./hold ./flips 1/at 0/keep none/time 6/high 6/from 0/to 1/b e 6/
+  > accepted 6|4/circuit 1 2/default 1 1/output all/first ./second ./hold ./flips 1/at 0/keep none/time 6/high 6/from 0/to 1/b n 6/
+  > accepted 13|4/circuit 1 2/default 1 1/output all/first ./second ./hold ./flips 1/at 7/keep none/time 13/high 13/from 0/to 1/b e 13/
+  > accepted 0|4/circuit 1 2/default 1 1/output all/first ./second ./hold ./flips 0/at 0/keep none/time 0/high 0/from 0/to 0/s 0/s 1/b e 0/none/s 1/none/b n 0/
+  > refused 3 LeafBound line 15|4/circuit 1 2/default 1 1/output all/first ./second ./hold ./flips 1/at 0/keep none/time 6/high 6/from 0/to 1/b e 5/
+  > refused 3 LeafBound line 15|4/circuit 1 2/default 1 1/output all/first ./second ./hold ./flips 1/at 0/keep none/time 6/high 6/from 0/to 1/b n 5/
+  > refused 4 LeafAboveTime line 15|4/circuit 1 2/default 1 1/output all/first ./second ./hold ./flips 1/at 0/keep none/time 6/high 6/from 0/to 1/b e 7/
+  > refused 3 LeafBound line 17|4/circuit 1 2/default 1 1/output all/first ./second ./hold ./flips 1/at 0/keep none/time 6/high 6/from 0/to 1/s 0/b e 6/b a 6/
+  > refused 9 LeafNotEmpty line 17|4/circuit 1 2/default 1 1/output all/first ./second ./hold ./flips 1/at 0/keep none/time 6/high 6/from 0/to 1/s 0/b e 6/none/
+  > refused 5 BadPosition line 16|4/circuit 1 2/default 1 1/output all/first ./second ./hold ./flips 1/at 0/keep none/time 6/high 6/from 0/to 1/s 0/s 0/b e 6/b e 6/b e 6/
+  > refused 2 PairTime|4/circuit 1 2/default 1 1/output all/first ./second ./hold ./flips 1/at 0/keep none/time 7/high 7/from 0/to 1/b e 7/
+  > refused 8 PairNotAdmitted|4/circuit 1 2/default 1 1/output all/first 1/second ./hold ./flips 1/at 0/keep none/time 6/high 6/from 0/to 1/b e 6/
+  > refused 7 OtherCircuit|4/circuit 0 2/default 1 1/output all/first none/second none/hold none/flips 0/at none/keep none/time 0/high 0/from none/to none/b e 0/
   > refused 3 LeafBound line 6|1/circuit 1 2/time 6/from 0/to 1/b a 6/
   > END
   14 rows
@@ -132,8 +132,8 @@ A gate of constants, without an input.
   > module t (y); output y; and #1 g(y,1'b1,1'b1); endmodule
   > END
   $ bash rows constant.v 'tdelay-cert 4/' <<'END'
-  > accepted 0|circuit 0 1/first none/second none/hold none/flips 0/at none/time 0/from none/to none/b e 0/
-  > refused 4 LeafAboveTime line 11|circuit 0 1/first none/second none/hold none/flips 0/at none/time 0/from none/to none/b n 1/
+  > accepted 0|circuit 0 1/default 1 1/output all/first none/second none/hold none/flips 0/at none/keep none/time 0/high 0/from none/to none/b e 0/
+  > refused 4 LeafAboveTime line 15|circuit 0 1/default 1 1/output all/first none/second none/hold none/flips 0/at none/keep none/time 0/high 0/from none/to none/b n 1/
   > END
   2 rows
 

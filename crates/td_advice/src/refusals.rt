@@ -143,13 +143,14 @@ fn not_joined(text: &mut Text, fault: &JoinFault<&str>) -> Result<(), AllocError
         JoinFault::OutOfMemory | JoinFault::NoCertificate | JoinFault::Gap(_) => {
             text.push(joins::sentence(fault))?
         }
-        JoinFault::Outside(one) | JoinFault::FalseNone(one) => {
+        JoinFault::Open(one) | JoinFault::Outside(one) | JoinFault::FalseNone(one) => {
             of_file(text, one, joins::sentence(fault))?
         }
         JoinFault::OtherCircuit(one, other)
         | JoinFault::OtherHold(one, other)
         | JoinFault::OtherFlips(one, other)
         | JoinFault::OtherMoments(one, other)
+        | JoinFault::OtherTerms(one, other)
         | JoinFault::Overlap(one, other)
         | JoinFault::Crossed(one, other) => of_two(text, one, other, joins::sentence(fault))?,
     }

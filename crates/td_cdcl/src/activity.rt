@@ -11,7 +11,7 @@ const FIRST_INCREMENT: u64 = 1 << 44;
 const HEAP_LEVELS: u32 = 33;
 
 /// Scores of variables, and a heap of those that may be open, the greatest score first.
-#[derive(Drop)]
+#[derive(Clone, Drop)]
 pub struct Activity {
     // By variable.
     scores: Vec<u64>,

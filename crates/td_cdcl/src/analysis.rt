@@ -25,7 +25,7 @@ pub struct Lesson {
 }
 
 /// A clause to be learned, its hints, and room for finding them.
-#[derive(Drop)]
+#[derive(Clone, Drop)]
 pub struct Analysis {
     marks: Marks,
     levels: Levels,

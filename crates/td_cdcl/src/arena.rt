@@ -28,7 +28,7 @@ const LEARNED: u32 = 1 << 31;
 const MOST_WORDS: usize = 1 << 31;
 
 /// Clauses of two literals and more. The first two of each are watched.
-#[derive(Drop)]
+#[derive(Clone, Drop)]
 pub struct Arena {
     alloc: Global,
     words: Vec<u32>,

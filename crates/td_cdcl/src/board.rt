@@ -9,13 +9,15 @@ use crate::watches::{Watch, Watches};
 use std::alloc::{AllocError, Global};
 
 /// Clauses, what watches them, and the literals that are true.
-#[derive(Drop)]
+#[derive(Clone, Drop)]
 pub struct Board {
     pub arena: Arena,
     pub watches: Watches,
     pub trail: Trail,
     /// How many literals were propagated.
     pub propagations: u64,
+    /// How many watches were looked at.
+    pub looks: u64,
 }
 
 // What becomes of a watch: it is kept, with this other literal; all literals of its clause are
@@ -66,6 +68,7 @@ impl Board {
             watches: Watches::new(alloc),
             trail: Trail::new(alloc),
             propagations: 0,
+            looks: 0,
         }
     }
 
@@ -118,6 +121,7 @@ impl Board {
     #[inline(always)]
     fn visit(&mut self, falsified: Literal) -> Result<Option<Clause>, AllocError> {
         let mut watches = self.watches.take(falsified);
+        self.looks = self.looks.saturating_add(watches.len() as u64);
         let progress = self.look_at_all(&mut watches, falsified)?;
         watches.truncate(progress.kept);
         self.watches.put_back(falsified, watches);

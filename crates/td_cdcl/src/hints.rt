@@ -9,7 +9,7 @@ use crate::proof::ClauseNumber;
 use std::alloc::{AllocError, Global};
 
 /// Hints, which are collected from the conflict back.
-#[derive(Drop)]
+#[derive(Clone, Drop)]
 pub struct Hints {
     hints: Vec<ClauseNumber>,
     // Those of one literal, which come first.

@@ -15,7 +15,7 @@ pub enum Mark {
 }
 
 /// A mark for each variable.
-#[derive(Drop)]
+#[derive(Clone, Drop)]
 pub struct Marks {
     marks: Vec<Mark>,
     // As many as there are variables; the first `count` of them have marks.
@@ -24,7 +24,7 @@ pub struct Marks {
 }
 
 /// A set of levels, which is emptied at once.
-#[derive(Drop)]
+#[derive(Clone, Drop)]
 pub struct Levels {
     // By level the last turn in which it was in the set.
     turns: Vec<u64>,

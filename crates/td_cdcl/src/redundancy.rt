@@ -27,7 +27,7 @@ enum Verdict {
 }
 
 /// A search for literals that a clause doesn't need.
-#[derive(Drop)]
+#[derive(Clone, Drop)]
 pub struct Redundancy {
     stack: Vec<Frame>,
 }

@@ -12,14 +12,21 @@ use crate::reduction::{forget, reduce};
 use crate::table::{read, small};
 use crate::trail::Value;
 use std::alloc::{AllocError, Global};
+use std::mem;
 use td_stop::Stop;
 
 // So many propagations are a unit of work, as is a conflict.
 const PROPAGATIONS_OF_A_UNIT: u64 = 1000;
+// So many words of 4 bytes a variable takes, about.
+const WORDS_OF_A_VARIABLE: u64 = 48;
+// A lemma that other solvers are told has no more glue, and no more literals.
+const TOLD_GLUE: u32 = 2;
+
+const TOLD_LITERALS: usize = 8;
 
 /// Clauses over variables, to which more may be added between questions. A question asks whether
 /// all clauses and some assumptions can be true. What is learned for one serves later ones.
-#[derive(Drop)]
+#[derive(Clone, Drop)]
 pub struct Solver {
     alloc: Global,
     proof: Proof,
@@ -34,6 +41,10 @@ pub struct Solver {
     // The clause without literals, once there is one.
     empty: Option<ClauseNumber>,
     conflicts: u64,
+    // Questions stay open once so many watches were looked at.
+    pause: u64,
+    // The short lemmas that were learned, where they are kept.
+    told: Option<Vec<ClauseNumber>>,
     // The assumptions that the trail begins with.
     assumed: Vec<Literal>,
     // Variables that were taken from the heap and not decided.
@@ -79,6 +90,8 @@ impl Solver {
             named: 0,
             empty: None,
             conflicts: 0,
+            pause: u64::MAX,
+            told: None,
             assumed: Vec::new(alloc),
             aside: Vec::new(alloc),
             next_input: 0,
@@ -148,6 +161,42 @@ impl Solver {
     pub fn work(&self) -> u64 {
         self.conflicts
             .saturating_add(self.board.propagations / PROPAGATIONS_OF_A_UNIT)
+    }
+
+    /// How many watches were looked at: steps that take about as long each.
+    pub fn looks(&self) -> u64 {
+        self.board.looks
+    }
+
+    /// Sets after how many looks a question stays open, once it has met a conflict.
+    pub fn pause_at(&mut self, looks: u64) {
+        self.pause = looks;
+    }
+
+    /// How many words of 4 bytes its clauses and its proof take, about.
+    pub fn words(&self) -> u64 {
+        let clauses = (self.board.arena.end() as u64).saturating_mul(2);
+        let variables = u64::from(self.variables()).saturating_mul(WORDS_OF_A_VARIABLE);
+        self.proof
+            .words()
+            .saturating_add(clauses)
+            .saturating_add(variables)
+    }
+
+    /// Hands the proof over. The clauses that come later have the numbers after these.
+    pub fn hand_over(&mut self) -> Proof {
+        let rest = Proof::beginning_at(self.alloc, self.proof.next());
+        mem::replace(&mut self.proof, rest)
+    }
+
+    /// The numbers of the short lemmas that were learned since the last call, none at the first
+    /// one. They are lemmas that may serve other solvers of the same clauses.
+    pub fn take_told(&mut self) -> Vec<ClauseNumber> {
+        let none = Some(Vec::new(self.alloc));
+        match mem::replace(&mut self.told, none) {
+            Some(told) => told,
+            None => Vec::new(self.alloc),
+        }
     }
 
     /// Adds a clause over variables that are there. As much of the trail stays as may. Answers its
@@ -400,7 +449,7 @@ impl Solver {
                     if let Some(empty) = self.empty {
                         return Ok(Outcome::Refuted(empty));
                     }
-                    if self.is_over(question.limit, start) {
+                    if self.is_over(question.limit, start) || self.board.looks >= self.pause {
                         self.back(0);
                         return Ok(Outcome::Open);
                     }
@@ -574,6 +623,11 @@ impl Solver {
         self.activity.decay(self.pace.is_stable());
         self.pace.count(self.conflicts, lesson.glue);
         let literals = self.analysis.clause();
+        if lesson.glue <= TOLD_GLUE && literals.len() <= TOLD_LITERALS {
+            if let Some(told) = &mut self.told {
+                told.push(number)?;
+            }
+        }
         let first = read(literals, 0, 0);
         if literals.len() == 1 {
             self.board.trail.assign_unit(first, number);

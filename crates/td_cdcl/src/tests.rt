@@ -262,3 +262,78 @@ fn answers_are_right(rt: HostRuntime) -> Result<(), Fail> {
     );
     Ok(())
 }
+
+/// A solver that is given all clauses over some variables, and these.
+fn contradictory(alloc: Global, variables: u32) -> Result<(Solver, Vec<u32>), AllocError> {
+    let mut solver = Solver::new(alloc);
+    let mut inputs = Vec::new(alloc);
+    for _ in 0..variables {
+        inputs.push(solver.add_variable(false)?)?;
+    }
+    for row in 0..1u32 << (variables % 8) {
+        let mut clause = Vec::new(alloc);
+        let mut rest = row;
+        for input in &inputs {
+            clause.push(literal_at(*input, rest % 2 == 0))?;
+            rest /= 2;
+        }
+        solver.add(&clause)?;
+    }
+    Ok((solver, inputs))
+}
+
+fn ask_all(solver: &mut Solver, inputs: &[u32]) -> Result<Outcome, AllocError> {
+    let question = Question {
+        assumptions: &[],
+        inputs,
+        skipped: &[],
+        limit: None,
+    };
+    solver.ask(&question, &Stop::never())
+}
+
+#[test]
+fn a_pause_comes_after_a_conflict(rt: HostRuntime) -> Result<(), Fail> {
+    let (mut solver, inputs) = contradictory(rt.alloc(), 3)?;
+    solver.pause_at(0);
+    assert_eq!(rt; ask_all(&mut solver, &inputs)?, Outcome::Open);
+    assert_eq!(rt; solver.conflicts(), 1);
+    assert!(rt; solver.looks() > 0);
+    solver.pause_at(u64::MAX);
+    let is_refuted = match ask_all(&mut solver, &inputs)? {
+        Outcome::Refuted(_) => true,
+        _ => false,
+    };
+    assert!(rt; is_refuted);
+    Ok(())
+}
+
+#[test]
+fn a_short_lemma_is_told(rt: HostRuntime) -> Result<(), Fail> {
+    let (mut solver, inputs) = contradictory(rt.alloc(), 2)?;
+    assert!(rt; solver.take_told().is_empty());
+    solver.pause_at(0);
+    let _open = ask_all(&mut solver, &inputs)?;
+    let told = solver.take_told();
+    assert_eq!(rt; told.len(), 1);
+    assert_eq!(rt; solver.proof().literals(told[0]).len(), 1);
+    assert!(rt; solver.take_told().is_empty());
+    Ok(())
+}
+
+#[test]
+fn a_proof_is_handed_over(rt: HostRuntime) -> Result<(), Fail> {
+    let (mut solver, _) = contradictory(rt.alloc(), 2)?;
+    let words = solver.words();
+    let proof = solver.hand_over();
+    assert_eq!(rt; (proof.first(), proof.next()), (0, 4));
+    assert!(rt; solver.proof().is_empty() && solver.words() < words && proof.words() > 0);
+    let number = solver.add(&[literal_at(0, true), literal_at(1, true)])?;
+    assert_eq!(rt;
+        (number, solver.proof().first(), solver.proof().next()),
+        (4, 4, 5)
+    );
+    assert_eq!(rt; solver.proof().literals(4).len(), 2);
+    assert!(rt; solver.proof().literals(0).is_empty() && !solver.proof().is_given(0));
+    Ok(())
+}

@@ -25,7 +25,7 @@ struct Cause {
 }
 
 /// The literals that are true. A level begins with a decision, and level 0 has what needs none.
-#[derive(Drop)]
+#[derive(Clone, Drop)]
 pub struct Trail {
     // By literal.
     values: Vec<Value>,

@@ -17,7 +17,7 @@ pub struct Watch {
 }
 
 /// By literal the clauses that watch it.
-#[derive(Drop)]
+#[derive(Clone, Drop)]
 pub struct Watches {
     alloc: Global,
     lists: Vec<Vec<Watch>>,

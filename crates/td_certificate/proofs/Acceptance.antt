@@ -18,7 +18,7 @@ use Rattle.td_domain.specs.declared.cubes.Trit.TheVariants.{Zero, One, Free}
 use Rattle.td_domain.specs.Pairs.{Pair}
 use Rattle.td_domain.specs.Cubes.{Allows, AllowsBits, IsIn, IsPoint}
 use Rattle.td_domain.specs.Admits.{Admitted, IsAdmitted}
-use Rattle.td_domain.specs.Worst.{IsWorst}
+use Rattle.td_domain.specs.Worst.{IsUpperBound}
 use Rattle.td_domain.specs.Together.{both_functions}
 use Rattle.td_domain.specs.BothLaws.{both_covers_gate, both_quiet}
 use Rattle.td_domain.proofs.Soundness.{no_later}
@@ -38,7 +38,7 @@ use Rattle.td_certificate.specs.declared.certificate.Certificate.{Certificate}
 use Rattle.td_refutation.proofs.Steps.{refuted_is_bounded}
 use Rattle.td_certificate.specs.Trees.{Tree, Split, Bound, Point, Empty, RefutedLeaf, lines_of}
 use Rattle.td_certificate.specs.Walks.{lines_from}
-use Rattle.td_certificate.specs.Accepts.{IsBoundBy, IsGood, HasDelay, setting_of, Accepts, AcceptedIsWorst}
+use Rattle.td_certificate.specs.Accepts.{IsBoundBy, IsGood, HasDelay, setting_of, Accepts, IsClaim, AcceptedIsTrue, AcceptedIsWorst}
 use Rattle.td_certificate.proofs.TreeLaws.{trees_are_counted}
 use Rattle.td_certificate.proofs.Walking.{lines_are_walked}
 
@@ -228,7 +228,7 @@ abbrev pub at_moments : Netlist → List ℕ → Setting
 at_moments netlist moments = record { netlist = netlist; moments = moments }
 
 by_number : (circuit : Numbered) → IsNumbering circuit → AreMoments circuit.netlist circuit.moments → IsAcyclic circuit.netlist → (c : Certificate)
-    → c.question.moments ≡ circuit.moments → Accepts circuit.netlist c → IsWorst (setting circuit) c.question.admit c.time
+    → c.question.moments ≡ circuit.moments → Accepts circuit.netlist c → IsClaim (setting circuit) c
 by_number circuit numbering fit acyclic c moments accepts =
     let admit : Admitted = c.question.admit in
     let given : setting_of circuit.netlist c ≡ setting circuit = ap (λ ms. at_moments circuit.netlist ms) moments in
@@ -237,24 +237,33 @@ by_number circuit numbering fit acyclic c moments accepts =
     let long = cube_fits admit.pins c.pair.first c.pair.second accepts.admitted.pinned in
     let fits = vector_fits (setting circuit) c.pair.first c.pair.second c.time reached in
     let made = trees_are_counted.has_tree c.tree accepts.tree in
-    let good : AllByRecursion (IsGood (setting circuit) admit c.time) (lines_of admit.pins made.0) =
-    subst (AllByRecursion (IsGood (setting circuit) admit c.time)) (ap (lines_from (admit.pins ∷ [])) (sym made.1) ∙ lines_are_walked made.0 admit.pins)
-    (subst (λ s. AllByRecursion (IsGood s admit c.time) (lines_from (admit.pins ∷ []) c.tree)) given accepts.good) in
+    let good : AllByRecursion (IsGood (setting circuit) admit c.high) (lines_of admit.pins made.0) =
+    subst (AllByRecursion (IsGood (setting circuit) admit c.high)) (ap (lines_from (admit.pins ∷ [])) (sym made.1) ∙ lines_are_walked made.0 admit.pins)
+    (subst (λ s. AllByRecursion (IsGood s admit c.high) (lines_from (admit.pins ∷ []) c.tree)) given accepts.good) in
     record {
-      pair = c.pair;
       admitted = accepts.admitted;
       reached = reached;
-      greatest = λ pair delay admitted is.
-          below circuit numbering fit acyclic admit c.time pair admitted delay is (sym accepts.size.inputs) made.0 admit.pins (omega (arith, long.0, fits)) admitted.pinned good;
+      bounded = λ pair delay admitted is.
+          below circuit numbering fit acyclic admit c.high pair admitted delay is (sym accepts.size.inputs) made.0 admit.pins (omega (arith, long.0, fits)) admitted.pinned good;
     }
 
-pub accepted_is_worst : AcceptedIsWorst
-accepted_is_worst netlist c well_formed acyclic fit accepts =
+pub accepted_is_true : AcceptedIsTrue
+accepted_is_true netlist c well_formed acyclic fit accepts =
     let given : Setting = setting_of netlist c in
     let numbered = numbering_exists given well_formed acyclic in
     let same : setting numbered.0 ≡ given = numbered.2 in
     let net_is : numbered.0.netlist ≡ netlist = ap (λ (s : Setting). s.netlist) same in
     let moments_are : numbered.0.moments ≡ c.question.moments = ap (λ (s : Setting). s.moments) same in
-    subst (λ (s : Setting). IsWorst s c.question.admit c.time) same
+    subst (λ (s : Setting). IsClaim s c) same
     (by_number numbered.0 numbered.1 (rw (net_is, moments_are) fit) (subst IsAcyclic (sym net_is) (record { well_formed = well_formed; acyclic = acyclic })) c
     (sym moments_are) (subst (λ (n : Netlist). Accepts n c) (sym net_is) accepts))
+
+pub accepted_is_worst : AcceptedIsWorst
+accepted_is_worst netlist c well_formed acyclic fit accepts same =
+    let claim = accepted_is_true netlist c well_formed acyclic fit accepts in
+    record {
+      pair = c.pair;
+      admitted = claim.admitted;
+      reached = claim.reached;
+      greatest = subst (IsUpperBound (setting_of netlist c) c.question.admit) same claim.bounded;
+    }

@@ -1,5 +1,5 @@
 -- The text of a certificate up to some node.
-use Rattle.std.proofs.Common.{◌≡◌, ◌≢◌, ℕ, zero, suc, ◌+◌, ◌*◌, ◌/◌, ◌≤◌, ◌<◌, Bool, true, false, Some, List, [], ◌∷◌, ◌++◌, length, take, drop, get_or, refl, sym, ap, subst, ◌∙◌, append_assoc, arith}
+use Rattle.std.proofs.Common.{◌≡◌, ◌≢◌, ℕ, zero, suc, ◌+◌, ◌*◌, ◌/◌, ◌≤◌, ◌<◌, Bool, true, false, Some, None, Option, List, [], ◌∷◌, ◌++◌, length, take, drop, get_or, refl, sym, ap, subst, ◌∙◌, append_assoc, arith}
 use Rattle.std.specs.Prelude.{map, codes, decimal, slice_get, if◌then◌else◌}
 use Rattle.std.specs.List.{flat_map}
 use Rattle.std.proofs.lemmas.List.{append-nil, take_all, take_more, take-append-drop, map-append}
@@ -14,9 +14,11 @@ use Rattle.td_certificate.specs.Steps.{Refuted, steps_text, refuted_line}
 use Rattle.td_certificate.specs.Sending.{StopsIn}
 use Rattle.td_certificate.specs.declared.tree.Node.{Node}
 use Rattle.td_certificate.specs.Text.{row, bits, node_line, trit, first_trits, second_trits, numbers}
-use Rattle.td_certificate.proofs.CertificateCode.{head_text}
+use Rattle.td_certificate.proofs.CertificateCode.{high_text, high_lines_text, head_text}
+use Rattle.std.proofs.lemmas.Fmt.{decimal_digit}
+use Rattle.td_certificate.specs.Questions.{Terms}
 use Rattle.td_certificate.specs.declared.certificate.Certificate.{Certificate}
-use Rattle.td_certificate.specs.Spelling.{inputs, version_in, question_text, version_line, head_lines, ended, text_of, spelling}
+use Rattle.td_certificate.specs.Spelling.{inputs, version_in, question_text, version_line, high_lines, head_lines, default_line, output_line, plain_terms, terms_or_plain, ended, text_of, spelling}
 
 pub up_to : Certificate → ℕ → List ℕ
 up_to c count = text_of (head_lines c) ++ text_of (map node_line (take count c.tree))
@@ -128,6 +130,22 @@ steps_sent a b e batch refuted p q =
       sent = Sent-then a b e front (steps_text refuted.steps) p q;
     }
 
+pub none_listed : (word ms old text new : List ℕ) → length ms ≡ 0 → text ≡ old ++ word → new ≡ text ++ codes " none\n"
+    → new ≡ old ++ ended (word ++ (codes " " ++ numbers ms))
+none_listed word [] old text new none before pushed =
+    pushed ∙ ap (λ (t : List ℕ). t ++ codes " none\n") before ∙ append_assoc old word (codes " none\n") ∙ ap (λ (t : List ℕ). old ++ t) (sym (append_assoc word (codes " none") (codes "\n")))
+none_listed word (m ∷ ms) old text new none before pushed = absurd (omega (arith, none))
+
+-- ---- terms
+
+plain_lines : ended (default_line plain_terms) ++ ended (output_line plain_terms) ≡ codes "default 1 1\noutput all\n"
+plain_lines = rw (decimal_digit 1 (omega arith)) refl
+
+pub plain_pushed : (terms : Option Terms) (old new : List ℕ) → terms ≡ None → new ≡ old ++ codes "default 1 1\noutput all\n"
+    → new ≡ old ++ (ended (default_line (terms_or_plain terms)) ++ ended (output_line (terms_or_plain terms)))
+plain_pushed terms old new none pushed =
+    pushed ∙ ap (λ (t : List ℕ). old ++ t) (sym plain_lines) ∙ ap (λ (t : Option Terms). old ++ (ended (default_line (terms_or_plain t)) ++ ended (output_line (terms_or_plain t)))) (sym none)
+
 -- ---- the head
 
 -- the trits of the first bits, or those of the second
@@ -205,8 +223,8 @@ abbrev pub behind_at : ℕ → List ℕ
 behind_at moment = codes " " ++ decimal moment
 
 -- a space before each number
-pub spaced : (m : ℕ) (ms : List ℕ) → codes "at" ++ flat_map behind_at (m ∷ ms) ≡ codes "at " ++ numbers (m ∷ ms)
-spaced m ms = ap (λ (t : List ℕ). codes "at" ++ t) (all_spaced m ms)
+pub spaced : (word : List ℕ) (m : ℕ) (ms : List ℕ) → word ++ flat_map behind_at (m ∷ ms) ≡ word ++ (codes " " ++ numbers (m ∷ ms))
+spaced word m ms = ap (λ (t : List ℕ). word ++ t) (all_spaced m ms)
   where
     all_spaced : (m : ℕ) (ms : List ℕ) → flat_map behind_at (m ∷ ms) ≡ codes " " ++ numbers (m ∷ ms)
     all_spaced m [] = flat_map-cons behind_at m [] ∙ append-nil (behind_at m)
@@ -214,28 +232,30 @@ spaced m ms = ap (λ (t : List ℕ). codes "at" ++ t) (all_spaced m ms)
         flat_map-cons behind_at m (n ∷ ms) ∙ ap (λ (t : List ℕ). behind_at m ++ t) (all_spaced n ms)
         ∙ sym (append_assoc (behind_at m) (codes " ") (numbers (n ∷ ms)))
 
-pub moments_pushed : (ms : List ℕ) (i : ℕ) (old text new : List ℕ) → length ms ≢ 0 → length ms ≤ i → text ≡ old ++ (codes "at" ++ flat_map behind_at (take i ms)) → new ≡ text ++ codes "\n"
-    → new ≡ old ++ ended (codes "at " ++ numbers ms)
-moments_pushed [] i old text new some le before pushed = absurd (some refl)
-moments_pushed (m ∷ ms) i old text new some le before pushed =
-    pushed ∙ ap (λ (t : List ℕ). t ++ codes "\n") (before ∙ ap (λ (ns : List ℕ). old ++ (codes "at" ++ flat_map behind_at ns)) (take_all i (m ∷ ms) le) ∙ ap (λ (t : List ℕ). old ++ t) (spaced m ms))
-    ∙ append_assoc old (codes "at " ++ numbers (m ∷ ms)) (codes "\n")
+pub listed_pushed : (word ms : List ℕ) (i : ℕ) (old text new : List ℕ) → length ms ≢ 0 → length ms ≤ i → text ≡ old ++ (word ++ flat_map behind_at (take i ms)) → new ≡ text ++ codes "\n"
+    → new ≡ old ++ ended (word ++ (codes " " ++ numbers ms))
+listed_pushed word [] i old text new some le before pushed = absurd (some refl)
+listed_pushed word (m ∷ ms) i old text new some le before pushed =
+    pushed ∙ ap (λ (t : List ℕ). t ++ codes "\n") (before ∙ ap (λ (ns : List ℕ). old ++ (word ++ flat_map behind_at ns)) (take_all i (m ∷ ms) le) ∙ ap (λ (t : List ℕ). old ++ t) (spaced word m ms))
+    ∙ append_assoc old (word ++ (codes " " ++ numbers (m ∷ ms))) (codes "\n")
 
 -- ---- the head
 
-made : (ve ci i sp g q ti t fr f so s nl : List ℕ)
-    → ((((((ve ++ (nl ++ (ci ++ (i ++ (sp ++ (g ++ nl)))))) ++ q) ++ (ti ++ (t ++ (nl ++ fr)))) ++ f) ++ (nl ++ so)) ++ s) ++ nl
-    ≡ (ve ++ nl) ++ (((((ci ++ i) ++ sp) ++ g) ++ nl) ++ (q ++ (((ti ++ t) ++ nl) ++ (((fr ++ f) ++ nl) ++ ((so ++ s) ++ nl)))))
-made ve ci i sp g q ti t fr f so s nl = simp append_assoc
+made : (ve ci i sp g q ti t h fr f so s nl : List ℕ)
+    → ((((((((ve ++ (nl ++ (ci ++ (i ++ (sp ++ (g ++ nl)))))) ++ q) ++ (ti ++ (t ++ nl))) ++ h) ++ fr) ++ f) ++ (nl ++ so)) ++ s) ++ nl
+    ≡ (ve ++ nl) ++ (((((ci ++ i) ++ sp) ++ g) ++ nl) ++ (q ++ (((ti ++ t) ++ nl) ++ (h ++ (((fr ++ f) ++ nl) ++ ((so ++ s) ++ nl))))))
+made ve ci i sp g q ti t h fr f so s nl = simp append_assoc
 
-pub head_made : (c : Certificate) (t0 t1 t2 t3 t4 t5 t6 : List ℕ)
+pub head_made : (c : Certificate) (t0 t1 t2 t3 t4 t5 t6 t7 t8 : List ℕ)
     → t0 ≡ version_line (version_in c) ++ (codes "\n" ++ (codes "circuit " ++ (decimal (inputs c) ++ (codes " " ++ (decimal c.gates ++ codes "\n")))))
-    → t1 ≡ t0 ++ question_text (version_in c) c.question → t2 ≡ t1 ++ (codes "time " ++ (decimal c.time ++ codes "\nfrom "))
-    → t3 ≡ t2 ++ bits c.pair.first → t4 ≡ t3 ++ codes "\nto " → t5 ≡ t4 ++ bits c.pair.second → t6 ≡ t5 ++ codes "\n" → t6 ≡ text_of (head_lines c)
-head_made c t0 t1 t2 t3 t4 t5 t6 e0 e1 e2 e3 e4 e5 e6 =
-    e6 ∙ ap (λ (t : List ℕ). t ++ codes "\n") (e5 ∙ ap (λ (t : List ℕ). t ++ bits c.pair.second) (e4 ∙ ap (λ (t : List ℕ). t ++ codes "\nto ") (e3 ∙ ap (λ (t : List ℕ). t ++ bits c.pair.first)
-    (e2 ∙ ap (λ (t : List ℕ). t ++ (codes "time " ++ (decimal c.time ++ codes "\nfrom "))) (e1 ∙ ap (λ (t : List ℕ). t ++ question_text (version_in c) c.question) e0)))))
-    ∙ made (version_line (version_in c)) (codes "circuit ") (decimal (inputs c)) (codes " ") (decimal c.gates) (question_text (version_in c) c.question) (codes "time ") (decimal c.time) (codes "from ") (bits c.pair.first) (codes "to ") (bits c.pair.second) (10 ∷ [])
+    → t1 ≡ t0 ++ question_text (version_in c) c.question → t2 ≡ t1 ++ (codes "time " ++ (decimal c.time ++ codes "\n"))
+    → t3 ≡ t2 ++ text_of (high_lines (version_in c) c.high) → t4 ≡ t3 ++ codes "from "
+    → t5 ≡ t4 ++ bits c.pair.first → t6 ≡ t5 ++ codes "\nto " → t7 ≡ t6 ++ bits c.pair.second → t8 ≡ t7 ++ codes "\n" → t8 ≡ text_of (head_lines c)
+head_made c t0 t1 t2 t3 t4 t5 t6 t7 t8 e0 e1 e2 e3 e4 e5 e6 e7 e8 =
+    e8 ∙ ap (λ (t : List ℕ). t ++ codes "\n") (e7 ∙ ap (λ (t : List ℕ). t ++ bits c.pair.second) (e6 ∙ ap (λ (t : List ℕ). t ++ codes "\nto ") (e5 ∙ ap (λ (t : List ℕ). t ++ bits c.pair.first)
+    (e4 ∙ ap (λ (t : List ℕ). t ++ codes "from ") (e3 ∙ ap (λ (t : List ℕ). t2 ++ t) (high_lines_text (version_in c) c.high) ∙ ap (λ (t : List ℕ). t ++ high_text (version_in c) c.high)
+    (e2 ∙ ap (λ (t : List ℕ). t ++ (codes "time " ++ (decimal c.time ++ codes "\n"))) (e1 ∙ ap (λ (t : List ℕ). t ++ question_text (version_in c) c.question) e0)))))))
+    ∙ made (version_line (version_in c)) (codes "circuit ") (decimal (inputs c)) (codes " ") (decimal c.gates) (question_text (version_in c) c.question) (codes "time ") (decimal c.time) (high_text (version_in c) c.high) (codes "from ") (bits c.pair.first) (codes "to ") (bits c.pair.second) (10 ∷ [])
     ∙ sym (head_text c)
 
 pub head_begins : (a : Output) (c : Certificate) (batch : List ℕ) → batch ≡ text_of (head_lines c) → SentTo a a (up_to c 0) batch

@@ -1,6 +1,6 @@
 -- Where all pairs are admitted, each cube has one: what the first version of a text is about.
 use Rattle.std.proofs.Common.{◌≡◌, ℕ, ◌*◌, ◌≤◌, Bool, true, false, if◌then◌else◌, List, [], ◌∷◌, length, refl, arith}
-use Rattle.std.specs.Prelude.{◌&&◌, ◌==◌, not}
+use Rattle.std.specs.Prelude.{◌&&◌, ◌==◌, not, Option, Some, None}
 use Rattle.std.specs.List.{list_all}
 use Rattle.std.proofs.lemmas.Bool.{eqb-true, and_parts}
 use Rattle.td_domain.specs.declared.cubes.Trit.{Trit}
@@ -8,11 +8,8 @@ use Rattle.td_domain.specs.declared.cubes.Trit.TheVariants.{Zero, One, Free}
 use Rattle.td_domain.specs.Cubes.{Allows, AllowsBits}
 use Rattle.td_domain.specs.Admits.{Admitted, flips_of, AreHeld, HasAdmitted}
 use Rattle.td_domain.proofs.Flips.{one_flip}
-use Rattle.td_certificate.specs.declared.question.Version.TheVariants.{First, Second, Third, Fourth, Fifth}
-use Rattle.td_certificate.specs.declared.certificate.Certificate.{Certificate}
-use Rattle.td_certificate.specs.Trees.{has_edges, has_refuted}
-use Rattle.td_certificate.specs.Spelling.{version_in}
-use Rattle.td_certificate.specs.Questions.{Question, inputs_of, is_free, holds_none, admits_all, is_at_once, version_of}
+use Rattle.td_certificate.specs.declared.question.Version.TheVariants.{First, Second, Third, Fourth}
+use Rattle.td_certificate.specs.Questions.{Terms, Question, inputs_of, is_free, holds_none, admits_all, is_at_once, version_by, version_of}
 
 some_allowed : (p : Trit) → (bit : Bool) × Allows p bit
 some_allowed Zero = (false, tt)
@@ -63,28 +60,20 @@ some_pair (u ∷ v ∷ pins) (h ∷ held) (p ∷ q ∷ cube) e f free loose =
     is_not_held true e is = (let f : false ≡ true = e in cc)
     is_not_held false e is = (let f : false ≡ true = is in cc)
 
-first_version : (moments : List ℕ) (admit : Admitted) → version_of (record { admit = admit; moments = moments }) ≡ First → admits_all admit ≡ true
-first_version moments admit e = at (is_at_once moments) (admits_all admit) e
+first_version : (terms : Option Terms) (moments : List ℕ) (admit : Admitted) → version_by terms admit moments ≡ First → admits_all admit ≡ true
+first_version (Some terms) moments admit e = absurd cc
+first_version None moments admit e = at (is_at_once moments) (admits_all admit) e
   where
     at : (once all : Bool) → (if once then (if all then First else Second) else Third) ≡ First → all ≡ true
     at true true e = refl
     at true false e = absurd cc
     at false all e = absurd cc
 
--- a certificate of the first version asks what the first version tells
-pub first_asked : (c : Certificate) → version_in c ≡ First → version_of c.question ≡ First
-first_asked c e = at (has_refuted c.tree) (has_edges c.tree) e
-  where
-    at : (refuted edges : Bool) → (if refuted then Fifth else (if edges then Fourth else version_of c.question)) ≡ First → version_of c.question ≡ First
-    at true edges e = absurd cc
-    at false true e = absurd cc
-    at false false e = e
-
 pub has_admitted : (question : Question) (cube : List Trit) → version_of question ≡ First → length question.admit.pins ≡ 2 * inputs_of question
     → length cube ≡ 2 * inputs_of question → HasAdmitted question.admit cube
 has_admitted question cube first pins size =
     let admit : Admitted = question.admit in
-    let all = first_version question.moments admit first in
+    let all = first_version question.terms question.moments admit first in
     let free = and_parts (list_all is_free admit.pins) (holds_none admit.held && (admit.flips == length admit.held)) all in
     let loose = and_parts (holds_none admit.held) (admit.flips == length admit.held) free.1 in
     let full : admit.flips ≡ length admit.held = eqb-true admit.flips (length admit.held) loose.1 in

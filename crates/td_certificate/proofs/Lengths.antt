@@ -1,5 +1,5 @@
 -- Lengths of texts.
-use Rattle.std.proofs.Common.{◌≡◌, ℕ, zero, suc, ◌+◌, ◌*◌, ◌<◌, ◌≤◌, ◌^◌, Bool, List, [], ◌∷◌, ◌++◌, length, length-append, ap, subst, arith}
+use Rattle.std.proofs.Common.{◌≡◌, ℕ, zero, suc, ◌+◌, ◌*◌, ◌<◌, ◌≤◌, ◌^◌, Bool, List, [], ◌∷◌, ◌++◌, length, length-append, Option, Some, None, ap, subst, arith}
 use Rattle.std.specs.Prelude.{codes, decimal, map}
 use Rattle.std.specs.List.{AllByRecursion}
 use Rattle.std.proofs.lemmas.List.{length-map}
@@ -9,20 +9,21 @@ use Rattle.td_certificate.specs.declared.tree.BoundedBy.TheVariants.{Arrival, Po
 use Rattle.td_certificate.specs.declared.tree.Node.{Node}
 use Rattle.td_certificate.specs.declared.tree.Node.TheVariants as node
 use Rattle.td_certificate.specs.declared.question.Version.{Version}
-use Rattle.td_certificate.specs.declared.question.Version.TheVariants.{First, Second, Third, Fourth, Fifth}
+use Rattle.td_certificate.specs.declared.question.Version.TheVariants.{First, Second, Third, Fourth}
 use Rattle.td_certificate.specs.declared.certificate.Certificate.{Certificate}
-use Rattle.td_certificate.specs.Questions.{Question, inputs_of}
-use Rattle.td_certificate.specs.Text.{bit, row, trit, first_trits, second_trits, hold, numbers}
-use Rattle.td_certificate.specs.Spelling.{inputs, version_in, FirstField, SecondField, HoldField, FlipsField, AtField, field_line, ended, question_text, latest, IsNode, HasSpelling}
-use Rattle.td_certificate.specs.Lengths.{IsShort, SearchedTextsFit, RefutedTextsFit}
+use Rattle.td_gates.specs.Delays.{IsInRange}
+use Rattle.td_certificate.specs.Questions.{Terms, Question, inputs_of}
+use Rattle.td_certificate.specs.Text.{bit, row, trit, first_trits, second_trits, hold, numbers, outputs}
+use Rattle.td_certificate.specs.Spelling.{inputs, version_in, FirstField, SecondField, HoldField, FlipsField, AtField, KeepField, terms_or_plain, terms_of, plain_terms, default_line, output_line, field_line, ended, question_text, greatest, latest, AreOutputs, AreTerms, IsNode, HasSpelling}
+use Rattle.td_certificate.specs.Lengths.{IsShort, AreFew, HaveFew, SearchedTextsFit, RefutedTextsFit}
 use Rattle.td_certificate.specs.Steps.{Refuted, steps_text}
 use Rattle.td_certificate.proofs.FieldCodes.{number_text}
 use Rattle.td_certificate.proofs.VectorCodes.{vector_text}
 use Rattle.td_certificate.proofs.VersionCode.{version_text}
-use Rattle.td_certificate.proofs.QuestionCodes.{four_text, third_parts}
+use Rattle.td_certificate.proofs.QuestionCodes.{four_text, third_parts, fourth_parts}
 use Rattle.td_certificate.proofs.NodeCodes.{node_text}
 use Rattle.td_certificate.proofs.TreeCodes.{nodes_text, nodes_text-cons}
-use Rattle.td_certificate.proofs.CertificateCode.{text_from_second, text_from_first, text_from_time, text_from_question, text_from_gates, text_from_inputs, lines_text, spelling_is}
+use Rattle.td_certificate.proofs.CertificateCode.{text_from_second, text_from_first, high_text, text_from_high, text_from_time, text_from_question, text_from_gates, text_from_inputs, lines_text, spelling_is}
 
 short : (n : ℕ) → n < 10 ^ 15 → length (decimal n) ≤ 15
 short n small = length-decimal-le 15 n (omega arith) small (omega arith)
@@ -86,12 +87,31 @@ numbers_length (m ∷ []) within = omega (arith, short m (omega (arith, within.0
 numbers_length (m ∷ n ∷ ms) within =
     omega (arith, short m (omega (arith, within.0)), numbers_length (n ∷ ms) within.1, length-append (decimal m ++ codes " ") (numbers (n ∷ ms)), length-append (decimal m) (codes " "))
 
+-- the numbers of outputs, each at most 19 digits and a space
+listed_length : (ns : List ℕ) → AllByRecursion (λ number. number ≤ greatest) ns → length (numbers ns) ≤ 20 * length ns + 4
+listed_length [] within = omega arith
+listed_length (n ∷ []) within = omega (arith, length-decimal-le 19 n (omega arith) (omega (arith, within.0)) (omega arith))
+listed_length (n ∷ m ∷ ns) within =
+    omega (
+      arith,
+      length-decimal-le 19 n (omega arith) (omega (arith, within.0)) (omega arith),
+      listed_length (m ∷ ns) within.1,
+      length-append (decimal n ++ codes " ") (numbers (m ∷ ns)),
+      length-append (decimal n) (codes " "),
+    )
+
+outputs_length : (asked : Option (List ℕ)) → AreOutputs asked → AreFew asked → length (outputs asked) ≤ 200004
+outputs_length None are few = omega arith
+outputs_length (Some ns) are few = omega (arith, listed_length ns are.1, few)
+
 record IsAsked (q : Question) : Type 0 where
   inputs : inputs_of q ≤ 4096
   pins : length q.admit.pins ≡ 2 * inputs_of q
   flips : q.admit.flips ≤ inputs_of q
   count : length q.moments ≡ inputs_of q
   moments : AllByRecursion (λ moment. moment ≤ latest) q.moments
+  terms : AreTerms q.terms
+  few : HaveFew q.terms
 
 four_length : (a b c d : List ℕ) → length (a ++ (b ++ (c ++ d))) ≡ length a + length b + length c + length d
 four_length a b c d = omega (arith, length-append a (b ++ (c ++ d)), length-append b (c ++ d), length-append c d)
@@ -116,7 +136,7 @@ at_length : (q : Question) → IsAsked q → length (ended (field_line q AtField
 at_length q has =
     omega (arith, length-append (codes "at " ++ numbers q.moments) (10 ∷ []), length-append (codes "at ") (numbers q.moments), numbers_length q.moments has.moments, has.count, has.inputs)
 
--- the lines of the third version, which are those of the fourth
+-- the lines of the third version
 dated_length : (q : Question) → IsAsked q → length (question_text Third q) ≤ 78000
 dated_length q has =
     omega (
@@ -127,12 +147,44 @@ dated_length q has =
       at_length q has,
     )
 
-lines_length : (q : Question) (v : Version) → IsAsked q → length (question_text v q) ≤ 78000
+default_length : (terms : Terms) → IsInRange terms.default → length (ended (default_line terms)) ≤ 40
+default_length terms is =
+    omega (
+      arith,
+      length-append (default_line terms) (10 ∷ []),
+      length-append ((codes "default " ++ decimal terms.default.rise) ++ codes " ") (decimal terms.default.fall),
+      length-append (codes "default " ++ decimal terms.default.rise) (codes " "),
+      length-append (codes "default ") (decimal terms.default.rise),
+      short terms.default.rise (omega (arith, is.greatest_rise)),
+      short terms.default.fall (omega (arith, is.greatest_fall)),
+    )
+
+output_length : (terms : Terms) → AreOutputs terms.outputs → AreFew terms.outputs → length (ended (output_line terms)) ≤ 200012
+output_length terms are few =
+    omega (arith, length-append (output_line terms) (10 ∷ []), length-append (codes "output ") (outputs terms.outputs), outputs_length terms.outputs are few)
+
+plain_range : IsInRange plain_terms.default
+plain_range = record { least_rise = omega arith; greatest_rise = omega arith; least_fall = omega arith; greatest_fall = omega arith }
+
+terms_length : (terms : Option Terms) → AreTerms terms → HaveFew terms
+    → length (ended (default_line (terms_or_plain terms))) + length (ended (output_line (terms_or_plain terms))) ≤ 200052
+terms_length None are few = omega (arith, default_length plain_terms plain_range, output_length plain_terms tt tt)
+terms_length (Some terms) are few = omega (arith, default_length terms are.0, output_length terms are.1 few)
+
+lines_length : (q : Question) (v : Version) → IsAsked q → length (question_text v q) ≤ 278500
 lines_length q First has = omega arith
 lines_length q Second has = omega (arith, admit_length q has)
-lines_length q Third has = dated_length q has
-lines_length q Fourth has = dated_length q has
-lines_length q Fifth has = dated_length q has
+lines_length q Third has = omega (arith, dated_length q has)
+lines_length q Fourth has =
+    omega (
+      arith,
+      ap length (fourth_parts q),
+      length-append (ended (default_line (terms_of q)) ++ ended (output_line (terms_of q))) (question_text Third q ++ ended (field_line q KeepField)),
+      length-append (ended (default_line (terms_of q))) (ended (output_line (terms_of q))),
+      length-append (question_text Third q) (ended (field_line q KeepField)),
+      terms_length q.terms has.terms has.few,
+      dated_length q has,
+    )
 
 -- ---- the whole
 
@@ -141,12 +193,18 @@ version_length First = omega arith
 version_length Second = omega arith
 version_length Third = omega arith
 version_length Fourth = omega arith
-version_length Fifth = omega arith
 
-head_length : (v : Version) (c : Certificate) → HasSpelling c → c.time < 10 ^ 15 → length (lines_text v c) ≤ 90000 + length (nodes_text c.tree)
-head_length v c has small =
-    let question : length (question_text v c.question) ≤ 78000 =
-    lines_length c.question v (record { inputs = has.inputs; pins = has.pins; flips = has.flips; count = has.count; moments = has.moments }) in
+high_length : (v : Version) (high : ℕ) → high < 10 ^ 15 → length (high_text v high) ≤ 21
+high_length First high small = omega arith
+high_length Second high small = omega arith
+high_length Third high small = omega arith
+high_length Fourth high small = number_length (codes "high ") 10 high small
+
+head_length : (v : Version) (c : Certificate) → HasSpelling c → HaveFew c.question.terms → c.time < 10 ^ 15 → c.high < 10 ^ 15
+    → length (lines_text v c) ≤ 290600 + length (nodes_text c.tree)
+head_length v c has few small low =
+    let question : length (question_text v c.question) ≤ 278500 =
+    lines_length c.question v (record { inputs = has.inputs; pins = has.pins; flips = has.flips; count = has.count; moments = has.moments; terms = has.terms; few = few }) in
     let inputs_short : length (number_text 32 (inputs c)) ≤ 16 = number_length [] 32 (inputs c) (omega (arith, has.inputs)) in
     let gates : length (number_text 10 c.gates) ≤ 16 = number_length [] 10 c.gates (omega (arith, has.gates)) in
     let time : length (codes "time " ++ number_text 10 c.time) ≤ 21 = number_length (codes "time ") 10 c.time small in
@@ -157,8 +215,10 @@ head_length v c has small =
       length-append (codes "circuit ") (text_from_inputs v c),
       length-append (number_text 32 (inputs c)) (text_from_gates v c),
       length-append (number_text 10 c.gates) (text_from_question v c),
-      length-append (question_text v c.question) (text_from_time c),
-      length-append (codes "time " ++ number_text 10 c.time) (text_from_first c),
+      length-append (question_text v c.question) (text_from_time v c),
+      length-append (codes "time " ++ number_text 10 c.time) (text_from_high v c),
+      length-append (high_text v c.high) (text_from_first c),
+      high_length v c.high low,
       length-append (codes "from " ++ vector_text c.pair.first) (text_from_second c),
       length-append (codes "to " ++ vector_text c.pair.second) (nodes_text c.tree),
       question,
@@ -173,13 +233,13 @@ head_length v c has small =
     )
 
 pub searched_texts_fit : SearchedTextsFit
-searched_texts_fit c has small short few =
+searched_texts_fit c has asked small low short few =
     omega (
       arith,
       ap length (spelling_is c),
       length-append (version_text (version_in c)) (lines_text (version_in c) c),
       version_length (version_in c),
-      head_length (version_in c) c has small,
+      head_length (version_in c) c has asked small low,
       nodes_length c.tree short,
     )
 
@@ -206,14 +266,14 @@ leaf_length nodes refuted is small =
     )
 
 pub refuted_texts_fit : RefutedTextsFit
-refuted_texts_fit c refuted has small is few =
+refuted_texts_fit c refuted has asked small low is few =
     let short = subst (AllByRecursion (IsNode (version_in c))) is has.nodes in
     omega (
       arith,
       ap length (spelling_is c),
       length-append (version_text (version_in c)) (lines_text (version_in c) c),
       version_length (version_in c),
-      head_length (version_in c) c has small,
-      leaf_length c.tree refuted is short.0.bound,
+      head_length (version_in c) c has asked small low,
+      leaf_length c.tree refuted is short.0.0.bound,
       few,
     )

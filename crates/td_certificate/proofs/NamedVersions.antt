@@ -9,7 +9,7 @@ use Rattle.td_certificate.specs.declared.fields.Reason.{Reason}
 use Rattle.td_certificate.specs.declared.fields.Reason.TheVariants.{Syntax, NumberTooLarge}
 use Rattle.td_certificate.specs.declared.fields.Reason.TheVariants as reason
 use Rattle.td_certificate.specs.declared.question.Version.{Version}
-use Rattle.td_certificate.specs.declared.question.Version.TheVariants.{First, Second, Third, Fourth, Fifth}
+use Rattle.td_certificate.specs.declared.question.Version.TheVariants.{First, Second, Third, Fourth}
 use Rattle.td_certificate.specs.Questions.{version_number}
 use Rattle.td_certificate.specs.Spelling.{greatest}
 use Rattle.td_certificate.specs.Reading.{Ends, Wrong, Reading, literal, begins_number, front_number, is_version, version_reason, because, digit_at, version_at, lines_at, certificate_at}
@@ -121,7 +121,6 @@ is_a_version First = refl
 is_a_version Second = refl
 is_a_version Third = refl
 is_a_version Fourth = refl
-is_a_version Fifth = refl
 
 is_other : (n : ℕ) → is_version n ≡ false → IsOther n
 is_other n none version same =

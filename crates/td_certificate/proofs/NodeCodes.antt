@@ -6,15 +6,15 @@ use Rattle.td_certificate.specs.declared.tree.BoundedBy.TheVariants.{Arrival, Po
 use Rattle.td_certificate.specs.declared.tree.Node.{Node}
 use Rattle.td_certificate.specs.declared.tree.Node.TheVariants as node
 use Rattle.td_certificate.specs.declared.question.Version.{Version}
-use Rattle.td_certificate.specs.declared.question.Version.TheVariants.{First, Second, Third, Fourth, Fifth}
+use Rattle.td_certificate.specs.declared.question.Version.TheVariants.{First, Second, Third, Fourth}
 use Rattle.td_certificate.specs.declared.fields.Leaves.{Leaves}
 use Rattle.td_certificate.specs.declared.fields.Leaves.TheVariants as leaves
-use Rattle.td_certificate.specs.Trees.{is_of_edges, names_edges, is_refuted, sides}
+use Rattle.td_certificate.specs.Trees.{is_of_edges}
 use Rattle.td_certificate.specs.Steps.{Refuted, steps_text, IsRefutedText}
 use Rattle.td_certificate.proofs.StepCodes.{refuted_tail, refuted_code}
 use Rattle.td_certificate.specs.Spelling.{ended, greatest, IsNode}
 use Rattle.td_certificate.specs.Text.{letter, node_line}
-use Rattle.td_certificate.specs.Reading.{◌>>=◌, literal, number_behind, written_as, domain_byte, domains, domain_of as domain_of_byte, letter_at, Tag, SplitTag, BoundTag, PointTag, EmptyTag, RefutedTag, tag_byte, tags, tag_at, behind_tag, node_at}
+use Rattle.td_certificate.specs.Reading.{◌>>=◌, literal, number_behind, written_as, domain_byte, domains, domain_of as domain_of_byte, letter_at, Tag, SplitTag, BoundTag, PointTag, EmptyTag, RefutedTag, tag_byte, tags, tag_at, behind_tag, node_at, leaves_in}
 use Rattle.td_certificate.specs.StepReading.{refuted_at}
 use Rattle.td_certificate.proofs.Codes.{IsCode, IsCode-then, IsCode-done}
 use Rattle.td_certificate.proofs.FieldCodes.{IsLimit, AtMost, number_text}
@@ -27,9 +27,6 @@ abbrev pub IsDomain : Leaves → BoundedBy → Type 0
 IsDomain leaves.First domain = is_of_edges domain ≡ false
 IsDomain leaves.Later domain = is_of_edges domain ≡ false
 IsDomain leaves.Any domain = Unit {0}
-IsDomain leaves.OfEdges domain = is_of_edges domain ≡ true
-IsDomain leaves.WithRefuted domain = Unit {0}
-IsDomain leaves.OfRefuted domain = Unit {0}
 
 domain_again : (here : Leaves) (x : BoundedBy) → IsDomain here x → domain_of_byte here (domain_byte x) ≡ Some x
 domain_again leaves.First Arrival v = refl
@@ -47,21 +44,6 @@ domain_again leaves.Any Possible v = refl
 domain_again leaves.Any Both v = refl
 domain_again leaves.Any Edges v = refl
 domain_again leaves.Any EdgesAndPossible v = refl
-domain_again leaves.OfEdges Arrival v = absurd (let f : false ≡ true = v in cc)
-domain_again leaves.OfEdges Possible v = absurd (let f : false ≡ true = v in cc)
-domain_again leaves.OfEdges Both v = absurd (let f : false ≡ true = v in cc)
-domain_again leaves.OfEdges Edges v = refl
-domain_again leaves.OfEdges EdgesAndPossible v = refl
-domain_again leaves.WithRefuted Arrival v = refl
-domain_again leaves.WithRefuted Possible v = refl
-domain_again leaves.WithRefuted Both v = refl
-domain_again leaves.WithRefuted Edges v = refl
-domain_again leaves.WithRefuted EdgesAndPossible v = refl
-domain_again leaves.OfRefuted Arrival v = refl
-domain_again leaves.OfRefuted Possible v = refl
-domain_again leaves.OfRefuted Both v = refl
-domain_again leaves.OfRefuted Edges v = refl
-domain_again leaves.OfRefuted EdgesAndPossible v = refl
 
 domain_letter : (here : Leaves) → IsLetter (IsDomain here) (domain_of_byte here) domain_byte
 domain_letter leaves.First = record {
@@ -82,24 +64,6 @@ domain_letter leaves.Any = record {
   again = domain_again leaves.Any;
   from = λ b x e. written_from (IsDomain leaves.Any) domain_byte (domains leaves.Any) (tt, (tt, (tt, (tt, (tt, tt))))) b x e;
 }
-domain_letter leaves.WithRefuted = record {
-  some = Arrival;
-  some_valid = tt;
-  again = domain_again leaves.WithRefuted;
-  from = λ b x e. written_from (IsDomain leaves.WithRefuted) domain_byte (domains leaves.WithRefuted) (tt, (tt, (tt, (tt, (tt, tt))))) b x e;
-}
-domain_letter leaves.OfRefuted = record {
-  some = Arrival;
-  some_valid = tt;
-  again = domain_again leaves.OfRefuted;
-  from = λ b x e. written_from (IsDomain leaves.OfRefuted) domain_byte (domains leaves.OfRefuted) (tt, (tt, (tt, (tt, (tt, tt))))) b x e;
-}
-domain_letter leaves.OfEdges = record {
-  some = Edges;
-  some_valid = refl;
-  again = domain_again leaves.OfEdges;
-  from = λ b x e. written_from (IsDomain leaves.OfEdges) domain_byte (domains leaves.OfEdges) (refl, (refl, tt)) b x e;
-}
 
 letter_text : (x : BoundedBy) → letter x ≡ domain_byte x ∷ []
 letter_text Arrival = refl
@@ -114,8 +78,7 @@ letter_code here =
     IsCode-as (IsDomain here) (IsDomain here) (λ x. domain_byte x ∷ []) letter (letter_at here) (λ x v. v) (λ x v. v) (λ x v. letter_text x)
     (char_code (IsDomain here) (domain_of_byte here) domain_byte (domain_letter here))
 
--- no leaf of the first version is empty, none before the fifth is refuted, and the last one is a
--- bound or refuted where it has to be
+-- no leaf of the first version is empty, and none before the fourth is refuted
 abbrev pub IsTag : Leaves → Tag → Type 0
 IsTag leaves.First EmptyTag = ⊥
 IsTag leaves.First RefutedTag = ⊥
@@ -127,22 +90,7 @@ IsTag leaves.Later BoundTag = Unit {0}
 IsTag leaves.Later PointTag = Unit {0}
 IsTag leaves.Later EmptyTag = Unit {0}
 IsTag leaves.Later RefutedTag = ⊥
-IsTag leaves.Any SplitTag = Unit {0}
-IsTag leaves.Any BoundTag = Unit {0}
-IsTag leaves.Any PointTag = Unit {0}
-IsTag leaves.Any EmptyTag = Unit {0}
-IsTag leaves.Any RefutedTag = ⊥
-IsTag leaves.OfEdges SplitTag = Unit {0}
-IsTag leaves.OfEdges BoundTag = Unit {0}
-IsTag leaves.OfEdges PointTag = ⊥
-IsTag leaves.OfEdges EmptyTag = ⊥
-IsTag leaves.OfEdges RefutedTag = ⊥
-IsTag leaves.WithRefuted tag = Unit {0}
-IsTag leaves.OfRefuted SplitTag = Unit {0}
-IsTag leaves.OfRefuted BoundTag = ⊥
-IsTag leaves.OfRefuted PointTag = ⊥
-IsTag leaves.OfRefuted EmptyTag = ⊥
-IsTag leaves.OfRefuted RefutedTag = Unit {0}
+IsTag leaves.Any tag = Unit {0}
 
 tag_again : (here : Leaves) (x : Tag) → IsTag here x → written_as tag_byte (tags here) (tag_byte x) ≡ Some x
 tag_again leaves.First SplitTag v = refl
@@ -159,22 +107,7 @@ tag_again leaves.Any SplitTag v = refl
 tag_again leaves.Any BoundTag v = refl
 tag_again leaves.Any PointTag v = refl
 tag_again leaves.Any EmptyTag v = refl
-tag_again leaves.Any RefutedTag v = absurd v
-tag_again leaves.OfEdges SplitTag v = refl
-tag_again leaves.OfEdges BoundTag v = refl
-tag_again leaves.OfEdges PointTag v = absurd v
-tag_again leaves.OfEdges EmptyTag v = absurd v
-tag_again leaves.OfEdges RefutedTag v = absurd v
-tag_again leaves.WithRefuted SplitTag v = refl
-tag_again leaves.WithRefuted BoundTag v = refl
-tag_again leaves.WithRefuted PointTag v = refl
-tag_again leaves.WithRefuted EmptyTag v = refl
-tag_again leaves.WithRefuted RefutedTag v = refl
-tag_again leaves.OfRefuted SplitTag v = refl
-tag_again leaves.OfRefuted BoundTag v = absurd v
-tag_again leaves.OfRefuted PointTag v = absurd v
-tag_again leaves.OfRefuted EmptyTag v = absurd v
-tag_again leaves.OfRefuted RefutedTag v = refl
+tag_again leaves.Any RefutedTag v = refl
 
 tag_letter : (here : Leaves) → IsLetter (IsTag here) (λ b. written_as tag_byte (tags here) b) tag_byte
 tag_letter leaves.First = record {
@@ -193,25 +126,7 @@ tag_letter leaves.Any = record {
   some = SplitTag;
   some_valid = tt;
   again = tag_again leaves.Any;
-  from = λ b x e. written_from (IsTag leaves.Any) tag_byte (tags leaves.Any) (tt, (tt, (tt, (tt, tt)))) b x e;
-}
-tag_letter leaves.WithRefuted = record {
-  some = SplitTag;
-  some_valid = tt;
-  again = tag_again leaves.WithRefuted;
-  from = λ b x e. written_from (IsTag leaves.WithRefuted) tag_byte (tags leaves.WithRefuted) (tt, (tt, (tt, (tt, (tt, tt))))) b x e;
-}
-tag_letter leaves.OfRefuted = record {
-  some = SplitTag;
-  some_valid = tt;
-  again = tag_again leaves.OfRefuted;
-  from = λ b x e. written_from (IsTag leaves.OfRefuted) tag_byte (tags leaves.OfRefuted) (tt, (tt, tt)) b x e;
-}
-tag_letter leaves.OfEdges = record {
-  some = SplitTag;
-  some_valid = tt;
-  again = tag_again leaves.OfEdges;
-  from = λ b x e. written_from (IsTag leaves.OfEdges) tag_byte (tags leaves.OfEdges) (tt, (tt, tt)) b x e;
+  from = λ b x e. written_from (IsTag leaves.Any) tag_byte (tags leaves.Any) (tt, (tt, (tt, (tt, (tt, tt))))) b x e;
 }
 
 tag_code : (here : Leaves) → IsCode (IsTag here) (λ x. tag_byte x ∷ []) (tag_at here)
@@ -442,132 +357,40 @@ node_code here =
 
 -- ---- the nodes of a version
 
--- nothing is bounded by edges before the fourth version, and nothing refuted before the fifth
-abbrev pub IsPlain : Version → Node → Type 0
-IsPlain First n = (names_edges n ≡ false) × (is_refuted n ≡ false)
-IsPlain Second n = (names_edges n ≡ false) × (is_refuted n ≡ false)
-IsPlain Third n = (names_edges n ≡ false) × (is_refuted n ≡ false)
-IsPlain Fourth n = is_refuted n ≡ false
-IsPlain Fifth n = Unit {0}
-
--- those of its nodes
-abbrev pub leaves_of : Version → Leaves
-leaves_of First = leaves.First
-leaves_of Second = leaves.Later
-leaves_of Third = leaves.Later
-leaves_of Fourth = leaves.Any
-leaves_of Fifth = leaves.WithRefuted
-
-pub to_node : (version : Version) (n : Node) → MayStand (leaves_of version) n → IsNode version n × IsPlain version n
-to_node First (node.Split position) v = (v.fits, (refl, refl))
-to_node Second (node.Split position) v = (v.fits, (refl, refl))
-to_node Third (node.Split position) v = (v.fits, (refl, refl))
-to_node Fourth (node.Split position) v = (v.fits, refl)
-to_node Fifth (node.Split position) v = (v.fits, tt)
-to_node First (node.Bound domain bound) v = (v.fits, (v.domain, refl))
-to_node Second (node.Bound domain bound) v = (v.fits, (v.domain, refl))
-to_node Third (node.Bound domain bound) v = (v.fits, (v.domain, refl))
-to_node Fourth (node.Bound domain bound) v = (v.fits, refl)
-to_node Fifth (node.Bound domain bound) v = (v.fits, tt)
-to_node First (node.Point time) v = (v.fits, (refl, refl))
-to_node Second (node.Point time) v = (v.fits, (refl, refl))
-to_node Third (node.Point time) v = (v.fits, (refl, refl))
-to_node Fourth (node.Point time) v = (v.fits, refl)
-to_node Fifth (node.Point time) v = (v.fits, tt)
+pub to_node : (version : Version) (n : Node) → MayStand (leaves_in version) n → IsNode version n
+to_node version (node.Split position) v = v.fits
+to_node First (node.Bound domain bound) v = (v.fits, λ other. v.domain)
+to_node Second (node.Bound domain bound) v = (v.fits, λ other. v.domain)
+to_node Third (node.Bound domain bound) v = (v.fits, λ other. v.domain)
+to_node Fourth (node.Bound domain bound) v = (v.fits, λ other. absurd (other refl))
+to_node version (node.Point time) v = v.fits
 to_node First node.Empty v = absurd v.tag
-to_node Second node.Empty v = (λ e. cc, (refl, refl))
-to_node Third node.Empty v = (λ e. cc, (refl, refl))
-to_node Fourth node.Empty v = (λ e. cc, refl)
-to_node Fifth node.Empty v = (λ e. cc, tt)
+to_node Second node.Empty v = λ e. cc
+to_node Third node.Empty v = λ e. cc
+to_node Fourth node.Empty v = λ e. cc
 to_node First (node.Refuted refuted) v = absurd v.tag
 to_node Second (node.Refuted refuted) v = absurd v.tag
 to_node Third (node.Refuted refuted) v = absurd v.tag
-to_node Fourth (node.Refuted refuted) v = absurd v.tag
-to_node Fifth (node.Refuted refuted) v = (v.steps, tt)
+to_node Fourth (node.Refuted refuted) v = (v.steps, refl)
 
-pub from_node : (version : Version) (n : Node) → IsNode version n → IsPlain version n → MayStand (leaves_of version) n
-from_node First (node.Split position) v p = record { tag = tt; domain = tt; fits = v; steps = tt }
-from_node Second (node.Split position) v p = record { tag = tt; domain = tt; fits = v; steps = tt }
-from_node Third (node.Split position) v p = record { tag = tt; domain = tt; fits = v; steps = tt }
-from_node Fourth (node.Split position) v p = record { tag = tt; domain = tt; fits = v; steps = tt }
-from_node Fifth (node.Split position) v p = record { tag = tt; domain = tt; fits = v; steps = tt }
-from_node First (node.Bound domain bound) v p = record { tag = tt; domain = p.0; fits = v; steps = tt }
-from_node Second (node.Bound domain bound) v p = record { tag = tt; domain = p.0; fits = v; steps = tt }
-from_node Third (node.Bound domain bound) v p = record { tag = tt; domain = p.0; fits = v; steps = tt }
-from_node Fourth (node.Bound domain bound) v p = record { tag = tt; domain = tt; fits = v; steps = tt }
-from_node Fifth (node.Bound domain bound) v p = record { tag = tt; domain = tt; fits = v; steps = tt }
-from_node First (node.Point time) v p = record { tag = tt; domain = tt; fits = v; steps = tt }
-from_node Second (node.Point time) v p = record { tag = tt; domain = tt; fits = v; steps = tt }
-from_node Third (node.Point time) v p = record { tag = tt; domain = tt; fits = v; steps = tt }
-from_node Fourth (node.Point time) v p = record { tag = tt; domain = tt; fits = v; steps = tt }
-from_node Fifth (node.Point time) v p = record { tag = tt; domain = tt; fits = v; steps = tt }
-from_node First node.Empty v p = absurd (v refl)
-from_node Second node.Empty v p = record { tag = tt; domain = tt; fits = omega arith; steps = tt }
-from_node Third node.Empty v p = record { tag = tt; domain = tt; fits = omega arith; steps = tt }
-from_node Fourth node.Empty v p = record { tag = tt; domain = tt; fits = omega arith; steps = tt }
-from_node Fifth node.Empty v p = record { tag = tt; domain = tt; fits = omega arith; steps = tt }
-from_node First (node.Refuted refuted) v p = absurd (let f : true ≡ false = p.1 in cc)
-from_node Second (node.Refuted refuted) v p = absurd (let f : true ≡ false = p.1 in cc)
-from_node Third (node.Refuted refuted) v p = absurd (let f : true ≡ false = p.1 in cc)
-from_node Fourth (node.Refuted refuted) v p = absurd (let f : true ≡ false = p in cc)
-from_node Fifth (node.Refuted refuted) v p = record { tag = tt; domain = tt; fits = omega arith; steps = v }
-
--- what may stand as the last one in the fourth version is a split, or is bounded by edges
-pub data IsLast (n : Node) : Type 0 where
-  splits : sides n ≡ 2 → IsLast n
-  names : names_edges n ≡ true → IsLast n
-
-pub is_last : (n : Node) → MayStand leaves.OfEdges n → IsLast n
-is_last (node.Split position) v = splits refl
-is_last (node.Bound domain bound) v = names v.domain
-is_last (node.Point time) v = absurd v.tag
-is_last node.Empty v = absurd v.tag
-is_last (node.Refuted refuted) v = absurd v.tag
-
-pub from_last : (n : Node) → MayStand leaves.Any n → IsLast n → MayStand leaves.OfEdges n
-from_last (node.Split position) v last = record { tag = tt; domain = tt; fits = v.fits; steps = tt }
-from_last (node.Bound domain bound) v (splits e) = absurd (let f : 0 ≡ 2 = e in cc)
-from_last (node.Bound domain bound) v (names e) = record { tag = tt; domain = e; fits = v.fits; steps = tt }
-from_last (node.Point time) v (splits e) = absurd (let f : 0 ≡ 2 = e in cc)
-from_last (node.Point time) v (names e) = absurd (let f : false ≡ true = e in cc)
-from_last node.Empty v (splits e) = absurd (let f : 0 ≡ 2 = e in cc)
-from_last node.Empty v (names e) = absurd (let f : false ≡ true = e in cc)
-from_last (node.Refuted refuted) v last = absurd v.tag
-
--- it may stand where any leaf may
-pub last_any : (n : Node) → MayStand leaves.OfEdges n → MayStand leaves.Any n
-last_any (node.Split position) v = record { tag = tt; domain = tt; fits = v.fits; steps = tt }
-last_any (node.Bound domain bound) v = record { tag = tt; domain = tt; fits = v.fits; steps = tt }
-last_any (node.Point time) v = absurd v.tag
-last_any node.Empty v = absurd v.tag
-last_any (node.Refuted refuted) v = absurd v.tag
-
--- what may stand as the last one in the fifth version is a split, or is refuted
-pub data IsLastRefuted (n : Node) : Type 0 where
-  splits_on : sides n ≡ 2 → IsLastRefuted n
-  refutes : is_refuted n ≡ true → IsLastRefuted n
-
-pub is_last_refuted : (n : Node) → MayStand leaves.OfRefuted n → IsLastRefuted n
-is_last_refuted (node.Split position) v = splits_on refl
-is_last_refuted (node.Bound domain bound) v = absurd v.tag
-is_last_refuted (node.Point time) v = absurd v.tag
-is_last_refuted node.Empty v = absurd v.tag
-is_last_refuted (node.Refuted refuted) v = refutes refl
-
-pub from_last_refuted : (n : Node) → MayStand leaves.WithRefuted n → IsLastRefuted n → MayStand leaves.OfRefuted n
-from_last_refuted (node.Split position) v last = record { tag = tt; domain = tt; fits = v.fits; steps = tt }
-from_last_refuted (node.Bound domain bound) v (splits_on e) = absurd (let f : 0 ≡ 2 = e in cc)
-from_last_refuted (node.Bound domain bound) v (refutes e) = absurd (let f : false ≡ true = e in cc)
-from_last_refuted (node.Point time) v (splits_on e) = absurd (let f : 0 ≡ 2 = e in cc)
-from_last_refuted (node.Point time) v (refutes e) = absurd (let f : false ≡ true = e in cc)
-from_last_refuted node.Empty v (splits_on e) = absurd (let f : 0 ≡ 2 = e in cc)
-from_last_refuted node.Empty v (refutes e) = absurd (let f : false ≡ true = e in cc)
-from_last_refuted (node.Refuted refuted) v last = record { tag = tt; domain = tt; fits = omega arith; steps = v.steps }
-
--- it may stand where any leaf of that version may
-pub last_with_refuted : (n : Node) → MayStand leaves.OfRefuted n → MayStand leaves.WithRefuted n
-last_with_refuted (node.Split position) v = record { tag = tt; domain = tt; fits = v.fits; steps = tt }
-last_with_refuted (node.Bound domain bound) v = absurd v.tag
-last_with_refuted (node.Point time) v = absurd v.tag
-last_with_refuted node.Empty v = absurd v.tag
-last_with_refuted (node.Refuted refuted) v = record { tag = tt; domain = tt; fits = omega arith; steps = v.steps }
+pub from_node : (version : Version) (n : Node) → IsNode version n → MayStand (leaves_in version) n
+from_node First (node.Split position) v = record { tag = tt; domain = tt; fits = v; steps = tt }
+from_node Second (node.Split position) v = record { tag = tt; domain = tt; fits = v; steps = tt }
+from_node Third (node.Split position) v = record { tag = tt; domain = tt; fits = v; steps = tt }
+from_node Fourth (node.Split position) v = record { tag = tt; domain = tt; fits = v; steps = tt }
+from_node First (node.Bound domain bound) v = record { tag = tt; domain = v.1 (λ e. cc); fits = v.0; steps = tt }
+from_node Second (node.Bound domain bound) v = record { tag = tt; domain = v.1 (λ e. cc); fits = v.0; steps = tt }
+from_node Third (node.Bound domain bound) v = record { tag = tt; domain = v.1 (λ e. cc); fits = v.0; steps = tt }
+from_node Fourth (node.Bound domain bound) v = record { tag = tt; domain = tt; fits = v.0; steps = tt }
+from_node First (node.Point time) v = record { tag = tt; domain = tt; fits = v; steps = tt }
+from_node Second (node.Point time) v = record { tag = tt; domain = tt; fits = v; steps = tt }
+from_node Third (node.Point time) v = record { tag = tt; domain = tt; fits = v; steps = tt }
+from_node Fourth (node.Point time) v = record { tag = tt; domain = tt; fits = v; steps = tt }
+from_node First node.Empty v = absurd (v refl)
+from_node Second node.Empty v = record { tag = tt; domain = tt; fits = omega arith; steps = tt }
+from_node Third node.Empty v = record { tag = tt; domain = tt; fits = omega arith; steps = tt }
+from_node Fourth node.Empty v = record { tag = tt; domain = tt; fits = omega arith; steps = tt }
+from_node First (node.Refuted refuted) v = absurd (let f : First ≡ Fourth = v.1 in cc)
+from_node Second (node.Refuted refuted) v = absurd (let f : Second ≡ Fourth = v.1 in cc)
+from_node Third (node.Refuted refuted) v = absurd (let f : Third ≡ Fourth = v.1 in cc)
+from_node Fourth (node.Refuted refuted) v = record { tag = tt; domain = tt; fits = omega arith; steps = v.0 }

@@ -4,7 +4,7 @@ use Rattle.std.specs.Prelude.{codes, replicate, ◌&&◌, ◌==◌}
 use Rattle.std.specs.Char.{is_ascii_digit}
 use Rattle.td_certificate.specs.declared.tree.Node.TheVariants as node
 use Rattle.td_certificate.specs.declared.question.Version.{Version}
-use Rattle.td_certificate.specs.declared.question.Version.TheVariants.{First, Second, Third, Fourth, Fifth}
+use Rattle.td_certificate.specs.declared.question.Version.TheVariants.{First, Second, Third, Fourth}
 use Rattle.td_certificate.specs.declared.fields.Leaves.{Leaves}
 use Rattle.td_certificate.specs.declared.certificate.Certificate.{Certificate}
 use Rattle.td_certificate.specs.declared.fields.Reason.TheVariants.{Syntax, NumberTooLarge}
@@ -13,7 +13,7 @@ use Rattle.td_certificate.specs.Trees.{sides}
 use Rattle.td_certificate.specs.Questions.{Question, all_at_once}
 use Rattle.td_domain.specs.Cubes.{weave}
 use Rattle.td_certificate.specs.Spelling.{greatest, latest}
-use Rattle.td_certificate.specs.Reading.{Ends, Wrong, Reading, ◌>>=◌, literal, digits_at, number_at, begins_with_zero, number_from, taken, char_at, chars_at, trit_of, hold_of, bit_of, chars_behind, letter_at, number_behind, row_behind, because, has_inputs, most_flips, flips_at, with_pins, admit_at, close_of, moment_at, moments_at, at_line, asked, dated_at, question_at, Tag, SplitTag, BoundTag, PointTag, EmptyTag, RefutedTag, written_as, tag_at, behind_tag, node_at, leaves_in, leaves_before, leaves_behind, nodes_within, nodes_at, with_fields, lines_at}
+use Rattle.td_certificate.specs.Reading.{Ends, Wrong, Reading, ◌>>=◌, literal, digits_at, number_at, begins_with_zero, number_from, taken, char_at, chars_at, trit_of, hold_of, bit_of, chars_behind, letter_at, number_behind, row_behind, because, has_inputs, most_flips, flips_at, with_pins, admit_at, close_of, moment_at, moments_at, at_line, asked, dated_at, steps_at, delays, default_at, outputs_at, terms_by, terms_at, with_terms, told_at, question_at, Tag, SplitTag, BoundTag, PointTag, EmptyTag, RefutedTag, written_as, tag_at, behind_tag, node_at, leaves_in, high_at, nodes_within, nodes_at, with_fields, lines_at}
 use Rattle.td_certificate.specs.StepReading.{ended_by, until_within, until_at, open_digits_at, open_number_at, numbers_at, closing_byte, numbers_after, spaced_at, LineTag, StepTag, BoundEndTag, line_byte, line_tags, StepLine, BoundLine, behind_line_tag, refuted_line_at, is_bound_line, bound_alone, step_before, refuted_at}
 use Rattle.td_certificate.proofs.Loops.{done}
 use Rattle.td_certificate.proofs.Codes.{bind_err}
@@ -157,15 +157,6 @@ dated_plain v later i bytes =
     plain_then (admit_at v i bytes) (λ admit. at_line later i admit.1 >>= λ moments. Ok (asked admit.0 moments.0, moments.1)) (admit_plain v i bytes)
     (λ admit. plain_then (at_line later i admit.1) (λ moments. Ok (asked admit.0 moments.0, moments.1)) (at_plain later i admit.1) (λ moments. plain_ok (asked admit.0 moments.0, moments.1)))
 
-question_plain : (v : Version) (i : ℕ) (bytes : List ℕ) → Plain (question_at v i bytes)
-unfolding question_at
-question_plain First i bytes = plain_ok (all_at_once i, bytes)
-question_plain Second i bytes =
-    plain_then (admit_at Second i bytes) (λ admit. Ok (asked admit.0 (replicate i 0), admit.1)) (admit_plain Second i bytes) (λ admit. plain_ok (asked admit.0 (replicate i 0), admit.1))
-question_plain Third i bytes = dated_plain Third true i bytes
-question_plain Fourth i bytes = dated_plain Fourth false i bytes
-question_plain Fifth i bytes = dated_plain Fifth false i bytes
-
 -- ---- steps
 
 ended_plain : {A B : Type 0} (single : A → B) (put : A → B → B) (last : Bool) (x : A) (rest : List ℕ) (others : Reading B) → Plain others → Plain (ended_by single put last x rest others)
@@ -210,6 +201,54 @@ open_number_plain (b ∷ rest) =
 numbers_plain : (bytes : List ℕ) → Plain (numbers_at bytes)
 unfolding numbers_at
 numbers_plain bytes = until_plain (λ x. x.1) (λ x. x.0 ∷ []) (λ x others. x.0 ∷ others) open_number_at open_number_plain bytes
+
+steps_plain : (close : ℕ) (bytes : List ℕ) → Plain (steps_at close bytes)
+unfolding steps_at
+steps_plain close bytes = syntax_plain (number_from true latest close bytes)
+
+default_plain : (bytes : List ℕ) → Plain (default_at bytes)
+unfolding default_at
+default_plain bytes =
+    plain_then (literal (codes "default ") bytes) (λ word. steps_at 32 word.1 >>= λ rise. steps_at 10 rise.1 >>= λ fall. Ok (delays rise.0 fall.0, fall.1)) (literal_plain (codes "default ") bytes)
+    (λ word. plain_then (steps_at 32 word.1) (λ rise. steps_at 10 rise.1 >>= λ fall. Ok (delays rise.0 fall.0, fall.1)) (steps_plain 32 word.1)
+    (λ rise. plain_then (steps_at 10 rise.1) (λ fall. Ok (delays rise.0 fall.0, fall.1)) (steps_plain 10 rise.1) (λ fall. plain_ok (delays rise.0 fall.0, fall.1))))
+
+abbrev all_outputs : Unit {0} × List ℕ → Reading (Option (List ℕ))
+all_outputs word = Ok (None, word.1)
+
+abbrev some_outputs : List ℕ × List ℕ → Reading (Option (List ℕ))
+some_outputs numbers = Ok (Some numbers.0, numbers.1)
+
+outputs_plain : (bytes : List ℕ) → Plain (outputs_at bytes)
+unfolding outputs_at
+outputs_plain [] = plain_ends
+outputs_plain (b ∷ rest) =
+    plain_if (eqb b 97) (literal (codes "all\n") (b ∷ rest) >>= all_outputs) (numbers_at (b ∷ rest) >>= some_outputs)
+    (plain_then (literal (codes "all\n") (b ∷ rest)) all_outputs (literal_plain (codes "all\n") (b ∷ rest)) (λ word. plain_ok (None, word.1)))
+    (plain_then (numbers_at (b ∷ rest)) some_outputs (numbers_plain (b ∷ rest)) (λ numbers. plain_ok (Some numbers.0, numbers.1)))
+
+terms_plain : (bytes : List ℕ) → Plain (terms_at bytes)
+unfolding terms_at
+terms_plain bytes =
+    plain_then (default_at bytes) (λ default. literal (codes "output ") default.1 >>= λ word. outputs_at word.1 >>= λ outputs. Ok (terms_by default.0 outputs.0, outputs.1)) (default_plain bytes)
+    (λ default. plain_then (literal (codes "output ") default.1) (λ word. outputs_at word.1 >>= λ outputs. Ok (terms_by default.0 outputs.0, outputs.1)) (literal_plain (codes "output ") default.1)
+    (λ word. plain_then (outputs_at word.1) (λ outputs. Ok (terms_by default.0 outputs.0, outputs.1)) (outputs_plain word.1) (λ outputs. plain_ok (terms_by default.0 outputs.0, outputs.1))))
+
+told_plain : (i : ℕ) (bytes : List ℕ) → Plain (told_at i bytes)
+unfolding told_at
+told_plain i bytes =
+    plain_then (terms_at bytes) (λ terms. dated_at Fourth false i terms.1 >>= λ question. literal (codes "keep none\n") question.1 >>= λ keep. Ok (with_terms terms.0 question.0, keep.1)) (terms_plain bytes)
+    (λ terms. plain_then (dated_at Fourth false i terms.1) (λ question. literal (codes "keep none\n") question.1 >>= λ keep. Ok (with_terms terms.0 question.0, keep.1)) (dated_plain Fourth false i terms.1)
+    (λ question. plain_then (literal (codes "keep none\n") question.1) (λ keep. Ok (with_terms terms.0 question.0, keep.1)) (literal_plain (codes "keep none\n") question.1)
+    (λ keep. plain_ok (with_terms terms.0 question.0, keep.1))))
+
+question_plain : (v : Version) (i : ℕ) (bytes : List ℕ) → Plain (question_at v i bytes)
+unfolding question_at
+question_plain First i bytes = plain_ok (all_at_once i, bytes)
+question_plain Second i bytes =
+    plain_then (admit_at Second i bytes) (λ admit. Ok (asked admit.0 (replicate i 0), admit.1)) (admit_plain Second i bytes) (λ admit. plain_ok (asked admit.0 (replicate i 0), admit.1))
+question_plain Third i bytes = dated_plain Third true i bytes
+question_plain Fourth i bytes = told_plain i bytes
 
 numbers_after_plain : (last : Bool) (bytes : List ℕ) → Plain (numbers_after last bytes)
 numbers_after_plain true bytes = plain_ok ([], bytes)
@@ -278,8 +317,8 @@ within_plain here zero zero bytes = plain_ok ([], bytes)
 within_plain here (suc count) zero bytes = plain_ok ([], bytes)
 within_plain here zero (suc pending) bytes = plain_ends
 within_plain here (suc count) (suc pending) bytes =
-    plain_then (node_at (leaves_before here pending) bytes) (λ first. nodes_within (leaves_behind here first.0) count (sides first.0 + pending) first.1 >>= λ others. Ok (first.0 ∷ others.0, others.1)) (node_plain (leaves_before here pending) bytes)
-    (λ first. plain_then (nodes_within (leaves_behind here first.0) count (sides first.0 + pending) first.1) (λ others. Ok (first.0 ∷ others.0, others.1)) (within_plain (leaves_behind here first.0) count (sides first.0 + pending) first.1)
+    plain_then (node_at here bytes) (λ first. nodes_within here count (sides first.0 + pending) first.1 >>= λ others. Ok (first.0 ∷ others.0, others.1)) (node_plain here bytes)
+    (λ first. plain_then (nodes_within here count (sides first.0 + pending) first.1) (λ others. Ok (first.0 ∷ others.0, others.1)) (within_plain here count (sides first.0 + pending) first.1)
     (λ others. plain_ok (first.0 ∷ others.0, others.1)))
 
 nodes_plain : (here : Leaves) (pending : ℕ) (bytes : List ℕ) → Plain (nodes_at here pending bytes)
@@ -288,21 +327,29 @@ nodes_plain here pending bytes = within_plain here _ pending bytes
 
 -- ---- the lines after the first
 
-abbrev pub behind_second : Version → ℕ → ℕ → Question → ℕ → List Bool → List ℕ → Reading Certificate
-behind_second v i g q t f bytes = row_behind (codes "to ") bit_of i bytes >>= λ second. nodes_at (leaves_in v) 1 second.1 >>= λ tree. Ok (with_fields g q t f second.0 tree.0, tree.1)
+abbrev pub behind_second : Version → ℕ → ℕ → Question → ℕ → ℕ → List Bool → List ℕ → Reading Certificate
+behind_second v i g q t h f bytes = row_behind (codes "to ") bit_of i bytes >>= λ second. nodes_at (leaves_in v) 1 second.1 >>= λ tree. Ok (with_fields g q t h f second.0 tree.0, tree.1)
 
-second_plain : (v : Version) (i g : ℕ) (q : Question) (t : ℕ) (f : List Bool) (bytes : List ℕ) → Plain (behind_second v i g q t f bytes)
-second_plain v i g q t f bytes =
-    plain_then (row_behind (codes "to ") bit_of i bytes) (λ second. nodes_at (leaves_in v) 1 second.1 >>= λ tree. Ok (with_fields g q t f second.0 tree.0, tree.1)) (row_behind_plain (codes "to ") bit_of i bytes)
-    (λ second. plain_then (nodes_at (leaves_in v) 1 second.1) (λ tree. Ok (with_fields g q t f second.0 tree.0, tree.1)) (nodes_plain (leaves_in v) 1 second.1) (λ tree. plain_ok (with_fields g q t f second.0 tree.0, tree.1)))
+second_plain : (v : Version) (i g : ℕ) (q : Question) (t h : ℕ) (f : List Bool) (bytes : List ℕ) → Plain (behind_second v i g q t h f bytes)
+second_plain v i g q t h f bytes =
+    plain_then (row_behind (codes "to ") bit_of i bytes) (λ second. nodes_at (leaves_in v) 1 second.1 >>= λ tree. Ok (with_fields g q t h f second.0 tree.0, tree.1)) (row_behind_plain (codes "to ") bit_of i bytes)
+    (λ second. plain_then (nodes_at (leaves_in v) 1 second.1) (λ tree. Ok (with_fields g q t h f second.0 tree.0, tree.1)) (nodes_plain (leaves_in v) 1 second.1) (λ tree. plain_ok (with_fields g q t h f second.0 tree.0, tree.1)))
+
+high_plain : (v : Version) (t : ℕ) (bytes : List ℕ) → Plain (high_at v t bytes)
+unfolding high_at
+high_plain First t bytes = plain_ok (t, bytes)
+high_plain Second t bytes = plain_ok (t, bytes)
+high_plain Third t bytes = plain_ok (t, bytes)
+high_plain Fourth t bytes = number_behind_plain (codes "high ") greatest 10 bytes
 
 abbrev behind_question : Version → ℕ → ℕ → Question → List ℕ → Reading Certificate
-behind_question v i g q bytes = number_behind (codes "time ") greatest 10 bytes >>= λ time. row_behind (codes "from ") bit_of i time.1 >>= λ first. behind_second v i g q time.0 first.0 first.1
+behind_question v i g q bytes = number_behind (codes "time ") greatest 10 bytes >>= λ time. high_at v time.0 time.1 >>= λ high. row_behind (codes "from ") bit_of i high.1 >>= λ first. behind_second v i g q time.0 high.0 first.0 first.1
 
 time_plain : (v : Version) (i g : ℕ) (q : Question) (bytes : List ℕ) → Plain (behind_question v i g q bytes)
 time_plain v i g q bytes =
-    plain_then (number_behind (codes "time ") greatest 10 bytes) (λ time. row_behind (codes "from ") bit_of i time.1 >>= λ first. behind_second v i g q time.0 first.0 first.1) (number_behind_plain (codes "time ") greatest 10 bytes)
-    (λ time. plain_then (row_behind (codes "from ") bit_of i time.1) (λ first. behind_second v i g q time.0 first.0 first.1) (row_behind_plain (codes "from ") bit_of i time.1) (λ first. second_plain v i g q time.0 first.0 first.1))
+    plain_then (number_behind (codes "time ") greatest 10 bytes) (λ time. high_at v time.0 time.1 >>= λ high. row_behind (codes "from ") bit_of i high.1 >>= λ first. behind_second v i g q time.0 high.0 first.0 first.1) (number_behind_plain (codes "time ") greatest 10 bytes)
+    (λ time. plain_then (high_at v time.0 time.1) (λ high. row_behind (codes "from ") bit_of i high.1 >>= λ first. behind_second v i g q time.0 high.0 first.0 first.1) (high_plain v time.0 time.1)
+    (λ high. plain_then (row_behind (codes "from ") bit_of i high.1) (λ first. behind_second v i g q time.0 high.0 first.0 first.1) (row_behind_plain (codes "from ") bit_of i high.1) (λ first. second_plain v i g q time.0 high.0 first.0 first.1)))
 
 abbrev behind_inputs : Version → ℕ → List ℕ → Reading Certificate
 behind_inputs v i bytes = number_at 200000 10 bytes >>= λ gates. question_at v i gates.1 >>= λ question. behind_question v i gates.0 question.0 question.1

@@ -1,5 +1,5 @@
 -- The lines of a question are a code, by the version.
-use Rattle.std.proofs.Common.{◌≡◌, ◌≢◌, ℕ, zero, suc, ◌-◌, ◌*◌, ◌≤◌, ◌<◌, Bool, true, false, cond, eqb, List, [], ◌∷◌, ◌++◌, length, map, Ok, refl, sym, ap, subst, ◌∙◌, append_assoc, arith}
+use Rattle.std.proofs.Common.{◌≡◌, ◌≢◌, ℕ, zero, suc, ◌-◌, ◌*◌, ◌≤◌, ◌<◌, Bool, true, false, cond, eqb, List, [], ◌∷◌, ◌++◌, length, map, Ok, Option, Some, None, refl, sym, ap, subst, ◌∙◌, append_assoc, arith}
 use Rattle.std.specs.Prelude.{codes, replicate, ◌&&◌}
 use Rattle.std.specs.List.{list_all}
 use Rattle.std.proofs.lemmas.List.{append-nil, nil_from_length}
@@ -9,17 +9,18 @@ use Rattle.td_domain.specs.declared.cubes.Trit.{Trit}
 use Rattle.td_domain.specs.declared.cubes.Trit.TheVariants.{Zero, One, Free}
 use Rattle.td_domain.specs.Admits.{Admitted, all_pairs}
 use Rattle.td_certificate.specs.declared.question.Version.{Version}
-use Rattle.td_certificate.specs.declared.question.Version.TheVariants.{First, Second, Third, Fourth, Fifth}
+use Rattle.td_certificate.specs.declared.question.Version.TheVariants.{First, Second, Third, Fourth}
 use Rattle.td_certificate.specs.declared.fields.Reason.TheVariants.{Syntax}
-use Rattle.td_certificate.specs.Questions.{Question, inputs_of, is_free, holds_none, admits_all, is_at_once, version_of, all_at_once}
+use Rattle.td_certificate.specs.Questions.{Terms, Question, inputs_of, is_free, holds_none, admits_all, is_at_once, plain_version, version_by, version_of, all_at_once}
 use Rattle.td_domain.specs.Cubes.{weave}
 use Rattle.td_certificate.specs.Text.{row, trit, first_trits, second_trits, hold, numbers}
-use Rattle.td_certificate.specs.Spelling.{FlipsField, AtField, fields_of, field_line, ended, text_of, question_text}
-use Rattle.td_certificate.specs.Reading.{◌>>=◌, number_behind, trit_of, hold_of, row_behind, has_inputs, most_flips, flips_at, with_pins, admit_at, at_line, asked, dated_at, question_at}
+use Rattle.td_certificate.specs.Spelling.{DefaultField, OutputField, FlipsField, AtField, KeepField, fields_of, terms_or_plain, terms_of, AreTerms, field_line, ended, text_of, question_text}
+use Rattle.td_certificate.specs.Reading.{◌>>=◌, literal, number_behind, trit_of, hold_of, row_behind, has_inputs, most_flips, flips_at, with_pins, admit_at, at_line, asked, dated_at, terms_at, with_terms, told_at, question_at}
 use Rattle.td_domain.proofs.Weaving.{weave-length}
 use Rattle.td_certificate.proofs.Codes.{IsCode, IsCode-then, IsCode-done}
 use Rattle.td_certificate.proofs.FieldCodes.{AtMost, number_text}
-use Rattle.td_certificate.proofs.VectorCodes.{number_behind_code, HasLength, trit_letter, hold_letter, row_text, row_behind_code, IsCode-as, mapped_code}
+use Rattle.td_certificate.proofs.TermCodes.{IsTerms, terms_text, terms_code, terms_lines}
+use Rattle.td_certificate.proofs.VectorCodes.{behind_word, number_behind_code, HasLength, trit_letter, hold_letter, row_text, row_behind_code, IsCode-as, mapped_code}
 use Rattle.td_certificate.proofs.VersionCode.{because_code}
 use Rattle.td_certificate.proofs.MomentCodes.{AreWithin, AreMoments, CanChange, at_text, at_code}
 
@@ -61,7 +62,6 @@ most_within : (version : Version) (pins : List Trit) (held : List Bool) → most
 most_within First pins held = omega arith
 most_within Third pins held = omega arith
 most_within Fourth pins held = omega arith
-most_within Fifth pins held = omega arith
 most_within Second pins held =
     elim (list_all is_free pins && holds_none held) as (λ t. cond t (length held - 1) (length held) ≤ length held) [ true ↦ omega arith | false ↦ omega arith ]
 
@@ -257,22 +257,36 @@ pin_count (suc count) = ap suc (pin_count count)
 
 -- ---- questions
 
--- a text of this version can ask the question: in the fourth and the fifth it can ask any
-abbrev pub IsReported : Version → Question → Type 0
-IsReported First q = version_of q ≡ First
-IsReported Second q = version_of q ≡ Second
-IsReported Third q = version_of q ≡ Third
-IsReported Fourth q = Unit {0}
-IsReported Fifth q = Unit {0}
-
 -- what a text of this version can ask, of a circuit with `i` inputs
 pub record IsQuestion (v : Version) (i : ℕ) (q : Question) : Type 0 where
-  pub version : IsReported v q
+  pub version : version_of q ≡ v
   pub inputs : inputs_of q ≡ i
   pub pins : length q.admit.pins ≡ 2 * i
   pub flips : q.admit.flips ≤ i
   pub count : length q.moments ≡ i
   pub moments : AreWithin q.moments
+  pub terms : AreTerms q.terms
+
+-- a question without terms, of this version
+record IsUntold (v : Version) (q : Question) : Type 0 where
+  none : q.terms ≡ None
+  plain : plain_version q.admit q.moments ≡ v
+
+untold : (v : Version) (q : Question) → v ≢ Fourth → version_of q ≡ v → IsUntold v q
+untold v q other e = by_terms q.terms refl e
+  where
+    by_terms : (terms : Option Terms) → q.terms ≡ terms → version_by terms q.admit q.moments ≡ v → IsUntold v q
+    by_terms None none plain = record { none = none; plain = plain }
+    by_terms (Some terms) some is = absurd (other (sym is))
+
+told : (v : Version) (q : Question) → q.terms ≡ None → plain_version q.admit q.moments ≡ v → version_of q ≡ v
+told v q none plain = ap (λ (terms : Option Terms). version_by terms q.admit q.moments) none ∙ plain
+
+no_terms : (q : Question) → q.terms ≡ None → AreTerms q.terms
+no_terms q none = subst AreTerms (sym none) tt
+
+as_asked : (q : Question) → q.terms ≡ None → q ≡ asked q.admit q.moments
+as_asked q none = ap (λ (terms : Option Terms). record { admit = q.admit; moments = q.moments; terms = terms }) none
 
 -- the tests that lead to each version
 tests_first : (at_once all : Bool) → cond at_once (cond all First Second) Third ≡ First → (at_once ≡ true) × (all ≡ true)
@@ -350,14 +364,17 @@ all_is i = record {
   flips = omega arith;
   count = moment_count i;
   moments = once_within i;
+  terms = tt;
 }
 
 to_all : (i : ℕ) (q : Question) → IsQuestion First i q → q ≡ all_at_once i
 to_all i q v =
-    let t = tests_first (is_at_once q.moments) (admits_all q.admit) v.version in
+    let u = untold First q (λ e. cc) v.version in
+    let t = tests_first (is_at_once q.moments) (admits_all q.admit) u.plain in
     let free = and_parts (list_all is_free q.admit.pins) (holds_none q.admit.held && eqb q.admit.flips (length q.admit.held)) t.1 in
     let none = and_parts (holds_none q.admit.held) (eqb q.admit.flips (length q.admit.held)) free.1 in
-    these q.admit.pins q.admit.held q.admit.flips q.moments i
+    as_asked q u.none
+    ∙ these q.admit.pins q.admit.held q.admit.flips q.moments i
     (free_is q.admit.pins free.0 ∙ ap (λ (n : ℕ). replicate n Free) v.pins)
     (none_is q.admit.held none.0 ∙ ap (λ (n : ℕ). replicate n false) v.inputs)
     (eqb-true q.admit.flips (length q.admit.held) none.1 ∙ v.inputs)
@@ -389,27 +406,31 @@ IsSecond i q = IsAdmit Second i q.admit × (q ≡ asked q.admit (replicate i 0))
 to_second_question : (i : ℕ) → 0 < i → (q : Question) → IsSecond i q → IsQuestion Second i q
 to_second_question i some q v =
     let ms : q.moments ≡ replicate i 0 = ap (λ (p : Question). p.moments) v.1 in
+    let none : q.terms ≡ None = ap (λ (p : Question). p.terms) v.1 in
     record {
       version =
-          to_second (is_at_once q.moments) (admits_all q.admit) (ap is_at_once ms ∙ once_again i)
-          (few_flips (list_all is_free q.admit.pins) (holds_none q.admit.held) q.admit.flips (length q.admit.held) v.0.flips (omega (arith, some, v.0.held)));
+          told Second q none
+          (to_second (is_at_once q.moments) (admits_all q.admit) (ap is_at_once ms ∙ once_again i)
+          (few_flips (list_all is_free q.admit.pins) (holds_none q.admit.held) q.admit.flips (length q.admit.held) v.0.flips (omega (arith, some, v.0.held))));
       inputs = v.0.held;
       pins = v.0.pins;
       flips = omega (arith, v.0.flips, most_within Second q.admit.pins q.admit.held, v.0.held);
       count = ap length ms ∙ moment_count i;
       moments = subst AreWithin (sym ms) (once_within i);
+      terms = no_terms q none;
     }
 
 from_second_question : (i : ℕ) (q : Question) → IsQuestion Second i q → IsSecond i q
 from_second_question i q v =
-    let t = tests_second (is_at_once q.moments) (admits_all q.admit) v.version in
+    let u = untold Second q (λ e. cc) v.version in
+    let t = tests_second (is_at_once q.moments) (admits_all q.admit) u.plain in
     let ms : q.moments ≡ replicate i 0 = once_is q.moments t.0 ∙ ap (λ (n : ℕ). replicate n 0) v.count in (
       record {
         pins = v.pins;
         held = v.inputs;
         flips = most_few (list_all is_free q.admit.pins) (holds_none q.admit.held) q.admit.flips (length q.admit.held) t.1 (omega (arith, v.flips, v.inputs));
       },
-      ap (λ (m : List ℕ). asked q.admit m) ms,
+      as_asked q u.none ∙ ap (λ (m : List ℕ). asked q.admit m) ms,
     )
 
 second_code : (i : ℕ) → 0 < i → i ≤ 4096 → IsCode (IsQuestion Second i) (question_text Second) (question_at Second i)
@@ -424,6 +445,7 @@ second_code i some few =
 record IsDated (v : Version) (later : Bool) (i : ℕ) (q : Question) : Type 0 where
   admit : IsAdmit v i q.admit
   moments : AreMoments later i q.moments
+  none : q.terms ≡ None
 
 from_at : (later : Bool) (i : ℕ) → CanChange later i → (a : Admitted) → IsCode (λ q. AreMoments later i q.moments × (q ≡ asked a q.moments)) (λ q. at_text q.moments)
     (λ bytes. at_line later i bytes >>= λ moments. Ok (asked a moments.0, moments.1))
@@ -437,27 +459,31 @@ dated_code v later i can few =
     (admit_code v i few)
     (λ a u. from_at later i can a)
     (record {
-      down = λ q u. (u.admit, (u.moments, refl), refl);
+      down = λ q u. (u.admit, (u.moments, as_asked q u.none), refl);
       up = λ a q u w.
           let p : q.admit ≡ a = ap (λ (r : Question). r.admit) w.1 in
-          (record { admit = subst (IsAdmit v i) (sym p) u; moments = w.0 }, ap (λ (b : Admitted). admit_text b ++ at_text q.moments) p);
+          (record { admit = subst (IsAdmit v i) (sym p) u; moments = w.0; none = ap (λ (r : Question). r.terms) w.1 }, ap (λ (b : Admitted). admit_text b ++ at_text q.moments) p);
     })
 
 to_third_question : (i : ℕ) (q : Question) → IsDated Third true i q → IsQuestion Third i q
 to_third_question i q v = record {
-  version = to_third (is_at_once q.moments) (admits_all q.admit) v.moments.later;
+  version = told Third q v.none (to_third (is_at_once q.moments) (admits_all q.admit) v.moments.later);
   inputs = v.admit.held;
   pins = v.admit.pins;
   flips = omega (arith, v.admit.flips, v.admit.held);
   count = v.moments.long;
   moments = v.moments.within;
+  terms = no_terms q v.none;
 }
 
 from_third_question : (i : ℕ) (q : Question) → IsQuestion Third i q → IsDated Third true i q
-from_third_question i q v = record {
-  admit = record { pins = v.pins; held = v.inputs; flips = omega (arith, v.flips, v.inputs) };
-  moments = record { long = v.count; within = v.moments; later = tests_third (is_at_once q.moments) (admits_all q.admit) v.version };
-}
+from_third_question i q v =
+    let u = untold Third q (λ e. cc) v.version in
+    record {
+      admit = record { pins = v.pins; held = v.inputs; flips = omega (arith, v.flips, v.inputs) };
+      moments = record { long = v.count; within = v.moments; later = tests_third (is_at_once q.moments) (admits_all q.admit) u.plain };
+      none = u.none;
+    }
 
 third_code : (i : ℕ) → 0 < i → i ≤ 4096 → IsCode (IsQuestion Third i) (question_text Third) (question_at Third i)
 unfolding question_at
@@ -466,61 +492,132 @@ third_code i some few =
     (to_third_question i) (from_third_question i) (λ q v. third_text q)
     (dated_code Third true i (λ e. some) few)
 
-to_fourth_question : (i : ℕ) (q : Question) → IsDated Fourth false i q → IsQuestion Fourth i q
-to_fourth_question i q v = record {
-  version = tt;
-  inputs = v.admit.held;
-  pins = v.admit.pins;
-  flips = omega (arith, v.admit.flips, v.admit.held);
-  count = v.moments.long;
-  moments = v.moments.within;
-}
+-- the same question without its terms
+abbrev bare : Question → Question
+bare q = asked q.admit q.moments
 
-from_fourth_question : (i : ℕ) (q : Question) → IsQuestion Fourth i q → IsDated Fourth false i q
-from_fourth_question i q v = record {
-  admit = record { pins = v.pins; held = v.inputs; flips = omega (arith, v.flips, v.inputs) };
-  moments = record { long = v.count; within = v.moments; later = refl };
-}
+abbrev dated_text : Question → List ℕ
+dated_text q = admit_text q.admit ++ at_text q.moments
+
+abbrev keep_text : List ℕ
+keep_text = codes "keep none\n" ++ []
+
+abbrev IsBehindTerms : ℕ → Terms → Question → Type 0
+IsBehindTerms i terms q = IsDated Fourth false i (bare q) × (q ≡ with_terms terms (bare q))
+
+behind_terms : (i : ℕ) → i ≤ 4096 → (terms : Terms) → IsCode (IsBehindTerms i terms) (λ q. dated_text q ++ keep_text)
+    (λ bytes. dated_at Fourth false i bytes >>= λ question. literal (codes "keep none\n") question.1 >>= λ keep. Ok (with_terms terms question.0, keep.1))
+behind_terms i few terms =
+    IsCode-then bare (IsDated Fourth false i) dated_text (dated_at Fourth false i) (λ p q. q ≡ with_terms terms p) (λ p q. keep_text)
+    (λ p bytes. literal (codes "keep none\n") bytes >>= λ keep. Ok (with_terms terms p, keep.1)) (IsBehindTerms i terms) (λ q. dated_text q ++ keep_text)
+    (dated_code Fourth false i (λ e. absurd cc) few)
+    (λ p u. behind_word (codes "keep none\n") (λ q. q ≡ with_terms terms p) (λ q. []) (λ bytes. Ok (with_terms terms p, bytes)) (IsCode-done (with_terms terms p)))
+    (record {
+      down = λ q u. (u.0, u.1, refl);
+      up = λ p q u e.
+          let none : bare q ≡ p = ap bare e ∙ sym (as_asked p u.none) in (
+            (subst (IsDated Fourth false i) (sym none) u, e ∙ ap (with_terms terms) (sym none)),
+            ap (λ (r : Question). dated_text r ++ keep_text) none,
+          );
+    })
+
+abbrev told_text : Question → List ℕ
+told_text q = terms_text (terms_of q) ++ (dated_text q ++ keep_text)
+
+record IsTold (i : ℕ) (q : Question) : Type 0 where
+  terms : IsTerms (terms_of q)
+  dated : IsDated Fourth false i (bare q)
+  some : q ≡ with_terms (terms_of q) (bare q)
+
+told_code : (i : ℕ) → i ≤ 4096 → IsCode (IsTold i) told_text (told_at i)
+unfolding told_at
+told_code i few =
+    IsCode-then terms_of IsTerms terms_text terms_at (IsBehindTerms i) (λ terms q. dated_text q ++ keep_text)
+    (λ terms bytes. dated_at Fourth false i bytes >>= λ question. literal (codes "keep none\n") question.1 >>= λ keep. Ok (with_terms terms question.0, keep.1))
+    (IsTold i) told_text terms_code
+    (λ terms u. behind_terms i few terms)
+    (record {
+      down = λ q u. (u.terms, (u.dated, u.some), refl);
+      up = λ terms q u w.
+          let p : terms_of q ≡ terms = ap terms_of w.1 in (
+            record { terms = subst IsTerms (sym p) u; dated = w.0; some = w.1 ∙ ap (λ (t : Terms). with_terms t (bare q)) (sym p) },
+            ap (λ (t : Terms). terms_text t ++ (dated_text q ++ keep_text)) p,
+          );
+    })
+
+pub fourth_parts : (q : Question) → question_text Fourth q ≡ (ended (field_line q DefaultField) ++ ended (field_line q OutputField)) ++ (question_text Third q ++ ended (field_line q KeepField))
+fourth_parts q =
+    let lines = map (field_line q) (fields_of Third) in
+    flat_map-cons ended (field_line q DefaultField) (field_line q OutputField ∷ (lines ++ field_line q KeepField ∷ []))
+    ∙ ap (λ (t : List ℕ). ended (field_line q DefaultField) ++ t)
+    (flat_map-cons ended (field_line q OutputField) (lines ++ field_line q KeepField ∷ [])
+    ∙ ap (λ (t : List ℕ). ended (field_line q OutputField) ++ t)
+    (flat_map-append ended lines (field_line q KeepField ∷ [])
+    ∙ ap (λ (t : List ℕ). question_text Third q ++ t) (flat_map-cons ended (field_line q KeepField) [] ∙ append-nil (ended (field_line q KeepField)))))
+    ∙ sym (append_assoc (ended (field_line q DefaultField)) (ended (field_line q OutputField)) (question_text Third q ++ ended (field_line q KeepField)))
+
+pub fourth_text : (q : Question) → question_text Fourth q ≡ told_text q
+fourth_text q =
+    fourth_parts q ∙ ap (λ (t : List ℕ). t ++ (question_text Third q ++ ended (field_line q KeepField))) (terms_lines (terms_of q))
+    ∙ ap (λ (t : List ℕ). terms_text (terms_of q) ++ (t ++ ended (field_line q KeepField))) (third_text q)
+
+to_fourth_question : (i : ℕ) (q : Question) → IsTold i q → IsQuestion Fourth i q
+to_fourth_question i q v =
+    let some : q.terms ≡ Some (terms_of q) = ap (λ (p : Question). p.terms) v.some in
+    record {
+      version = ap (λ (terms : Option Terms). version_by terms q.admit q.moments) some;
+      inputs = v.dated.admit.held;
+      pins = v.dated.admit.pins;
+      flips = omega (arith, v.dated.admit.flips, v.dated.admit.held);
+      count = v.dated.moments.long;
+      moments = v.dated.moments.within;
+      terms = subst AreTerms (sym some) v.terms;
+    }
+
+-- a question of the fourth version has terms
+plain_early : (admit : Admitted) (moments : List ℕ) → plain_version admit moments ≢ Fourth
+plain_early admit moments e = by_tests (is_at_once moments) (admits_all admit) e
+  where
+    by_tests : (once all : Bool) → cond once (cond all First Second) Third ≡ Fourth → ⊥
+    by_tests true true e = cc
+    by_tests true false e = cc
+    by_tests false all e = cc
+
+from_fourth_question : (i : ℕ) (q : Question) → IsQuestion Fourth i q → IsTold i q
+from_fourth_question i q v = by_terms q.terms refl v.version v.terms
+  where
+    by_terms : (terms : Option Terms) → q.terms ≡ terms → version_by terms q.admit q.moments ≡ Fourth → AreTerms terms → IsTold i q
+    by_terms None none is are = absurd (plain_early q.admit q.moments is)
+    by_terms (Some terms) some is are =
+        let p : terms_of q ≡ terms = ap terms_or_plain some in
+        record {
+          terms = subst IsTerms (sym p) are;
+          dated = record {
+            admit = record { pins = v.pins; held = v.inputs; flips = omega (arith, v.flips, v.inputs) };
+            moments = record { long = v.count; within = v.moments; later = refl };
+            none = refl;
+          };
+          some =
+              ap (λ (t : Option Terms). record { admit = q.admit; moments = q.moments; terms = t }) some
+              ∙ ap (λ (t : Terms). with_terms t (bare q)) (sym p);
+        }
 
 fourth_code : (i : ℕ) → i ≤ 4096 → IsCode (IsQuestion Fourth i) (question_text Fourth) (question_at Fourth i)
 unfolding question_at
 fourth_code i few =
-    IsCode-as (IsDated Fourth false i) (IsQuestion Fourth i) (λ q. admit_text q.admit ++ at_text q.moments) (question_text Fourth) (question_at Fourth i)
-    (to_fourth_question i) (from_fourth_question i) (λ q v. third_text q)
-    (dated_code Fourth false i (λ e. absurd cc) few)
-
-to_fifth_question : (i : ℕ) (q : Question) → IsDated Fifth false i q → IsQuestion Fifth i q
-to_fifth_question i q v = record {
-  version = tt;
-  inputs = v.admit.held;
-  pins = v.admit.pins;
-  flips = omega (arith, v.admit.flips, v.admit.held);
-  count = v.moments.long;
-  moments = v.moments.within;
-}
-
-from_fifth_question : (i : ℕ) (q : Question) → IsQuestion Fifth i q → IsDated Fifth false i q
-from_fifth_question i q v = record {
-  admit = record { pins = v.pins; held = v.inputs; flips = omega (arith, v.flips, v.inputs) };
-  moments = record { long = v.count; within = v.moments; later = refl };
-}
-
-fifth_code : (i : ℕ) → i ≤ 4096 → IsCode (IsQuestion Fifth i) (question_text Fifth) (question_at Fifth i)
-unfolding question_at
-fifth_code i few =
-    IsCode-as (IsDated Fifth false i) (IsQuestion Fifth i) (λ q. admit_text q.admit ++ at_text q.moments) (question_text Fifth) (question_at Fifth i)
-    (to_fifth_question i) (from_fifth_question i) (λ q v. third_text q)
-    (dated_code Fifth false i (λ e. absurd cc) few)
+    IsCode-as (IsTold i) (IsQuestion Fourth i) told_text (question_text Fourth) (question_at Fourth i)
+    (to_fourth_question i) (from_fourth_question i) (λ q v. fourth_text q)
+    (told_code i few)
 
 pub question_code : (v : Version) (i : ℕ) → (has_inputs v ≡ true → 0 < i) → i ≤ 4096 → IsCode (IsQuestion v i) (question_text v) (question_at v i)
 question_code First i some few = first_code i
 question_code Second i some few = second_code i (some refl) few
 question_code Third i some few = third_code i (some refl) few
 question_code Fourth i some few = fourth_code i few
-question_code Fifth i some few = fifth_code i few
 
--- without inputs the version is the first
-none_first : (q : Question) → length q.admit.pins ≡ 2 * inputs_of q → q.admit.flips ≤ inputs_of q → length q.moments ≡ inputs_of q → inputs_of q ≡ 0 → version_of q ≡ First
+-- without inputs and terms the version is the first
+none_first : (q : Question) → length q.admit.pins ≡ 2 * inputs_of q → q.admit.flips ≤ inputs_of q → length q.moments ≡ inputs_of q → inputs_of q ≡ 0
+    → plain_version q.admit q.moments ≡ First
 none_first q pins flips count none =
     let a : q.admit.pins ≡ [] = nil_from_length q.admit.pins (omega (arith, pins, none)) in
     let b : q.admit.held ≡ [] = nil_from_length q.admit.held none in
@@ -533,14 +630,13 @@ zero_or_some : {X : Type 0} (n : ℕ) → (n ≡ 0 → X) → (0 < n → X) → 
 zero_or_some zero f g = f refl
 zero_or_some (suc n) f g = g (omega arith)
 
-no_version : {X : Type 0} (v : Version) (q : Question) → has_inputs v ≡ true → IsReported v q → version_of q ≡ First → X
-no_version First q some reported e = absurd cc
-no_version Second q some reported e = absurd (let h : First ≡ Second = sym e ∙ reported in cc)
-no_version Third q some reported e = absurd (let h : First ≡ Third = sym e ∙ reported in cc)
-no_version Fourth q some reported e = absurd cc
-no_version Fifth q some reported e = absurd cc
+no_version : {X : Type 0} (v : Version) (q : Question) → has_inputs v ≡ true → version_of q ≡ v → plain_version q.admit q.moments ≡ First → X
+no_version First q some is e = absurd cc
+no_version Second q some is e = absurd (let h : First ≡ Second = sym e ∙ (untold Second q (λ f. cc) is).plain in cc)
+no_version Third q some is e = absurd (let h : First ≡ Third = sym e ∙ (untold Third q (λ f. cc) is).plain in cc)
+no_version Fourth q some is e = absurd cc
 
 pub some_inputs_of : (v : Version) (q : Question) → length q.admit.pins ≡ 2 * inputs_of q → q.admit.flips ≤ inputs_of q → length q.moments ≡ inputs_of q
-    → IsReported v q → has_inputs v ≡ true → 0 < inputs_of q
-some_inputs_of v q pins flips count reported some =
-    zero_or_some (inputs_of q) (λ none. no_version v q some reported (none_first q pins flips count none)) (λ is. is)
+    → version_of q ≡ v → has_inputs v ≡ true → 0 < inputs_of q
+some_inputs_of v q pins flips count is some =
+    zero_or_some (inputs_of q) (λ none. no_version v q some is (none_first q pins flips count none)) (λ some. some)

@@ -200,6 +200,7 @@ certificate bound = record {
   gates = 1;
   question = question;
   time = 3;
+  high = 3;
   pair = record { first = false ∷ []; second = true ∷ [] };
   tree = node.Bound by.Arrival bound ∷ [];
 }
@@ -211,12 +212,13 @@ is_first = refl
 in_first : version_in (certificate 3) ≡ First
 in_first = refl
 
--- with a leaf bounded by edges it is of the fourth, whatever is asked
+-- with terms it is of the fourth, whatever is asked
 abbrev edged : Certificate
 edged = record {
   gates = 1;
-  question = question;
+  question = record { admit = question.admit; moments = question.moments; terms = Some (record { default = record { rise = 1; fall = 1 }; outputs = None }) };
   time = 3;
+  high = 3;
   pair = record { first = false ∷ []; second = true ∷ [] };
   tree = node.Bound by.Edges 3 ∷ [];
 }
@@ -277,8 +279,8 @@ is_empty : IsGood given still 3 (record { cube = Zero ∷ One ∷ []; node = nod
 is_empty = record { splits = tt; one_pair = tt; of_cube = λ has. no_flip has.0 has.1 has.2; within = tt }
 
 -- such pairs are of the second version, and with a moment that isn't 0 of the third
-is_second : version_of (record { admit = still; moments = 0 ∷ [] }) ≡ Second
+is_second : version_of (record { admit = still; moments = 0 ∷ []; terms = None }) ≡ Second
 is_second = refl
 
-is_third : version_of (record { admit = still; moments = 7 ∷ [] }) ≡ Third
+is_third : version_of (record { admit = still; moments = 7 ∷ []; terms = None }) ≡ Third
 is_third = refl

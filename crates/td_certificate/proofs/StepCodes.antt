@@ -270,12 +270,12 @@ numbers_code = until_code open_code numbers_until
 abbrev pub AreSmall : List ℕ → Type 0
 AreSmall ns = AllByRecursion (λ number. number ≤ 10 ^ 18) ns
 
-to_small : (ns : List ℕ) → IsNumbers ns → AreSmall ns
+pub to_small : (ns : List ℕ) → IsNumbers ns → AreSmall ns
 to_small [] v = absurd v
 to_small (n ∷ []) v = (v, tt)
 to_small (n ∷ m ∷ ns) v = (v.0, to_small (m ∷ ns) v.1)
 
-from_small : (n : ℕ) (ns : List ℕ) → AreSmall (n ∷ ns) → IsNumbers (n ∷ ns)
+pub from_small : (n : ℕ) (ns : List ℕ) → AreSmall (n ∷ ns) → IsNumbers (n ∷ ns)
 from_small n [] v = v.0
 from_small n (m ∷ ns) v = (v.0, from_small m ns v.1)
 

@@ -3,7 +3,7 @@ use Rattle.std.proofs.Common.{◌≡◌, ℕ, List, [], ◌∷◌, ◌++◌, Som
 use Rattle.std.specs.Prelude.{codes}
 use Rattle.td_certificate.specs.declared.fields.Reason.{Reason}
 use Rattle.td_certificate.specs.declared.question.Version.{Version}
-use Rattle.td_certificate.specs.declared.question.Version.TheVariants.{First, Second, Third, Fourth, Fifth}
+use Rattle.td_certificate.specs.declared.question.Version.TheVariants.{First, Second, Third, Fourth}
 use Rattle.td_certificate.specs.Reading.{Ends, Wrong, Reading, char_at, version_digit, version_of_digit, digit_at, version_reason, because, version_at}
 use Rattle.td_certificate.proofs.Codes.{IsCode}
 use Rattle.td_certificate.proofs.FieldCodes.{ends, wrong, wrong_is, Always}
@@ -54,14 +54,13 @@ version_again First = refl
 version_again Second = refl
 version_again Third = refl
 version_again Fourth = refl
-version_again Fifth = refl
 
 version_letter : IsLetter Always version_of_digit version_digit
 version_letter = record {
   some = First;
   some_valid = tt;
   again = λ x v. version_again x;
-  from = λ b x e. written_from Always version_digit (First ∷ Second ∷ Third ∷ Fourth ∷ Fifth ∷ []) (tt, (tt, (tt, (tt, (tt, tt))))) b x e;
+  from = λ b x e. written_from Always version_digit (First ∷ Second ∷ Third ∷ Fourth ∷ []) (tt, (tt, (tt, (tt, tt)))) b x e;
 }
 
 abbrev pub digit_text : Version → List ℕ

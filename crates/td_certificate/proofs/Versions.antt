@@ -10,7 +10,7 @@ use Rattle.td_certificate.specs.declared.fields.Reason.{Reason}
 use Rattle.td_certificate.specs.declared.fields.Reason.TheVariants.{Syntax, NumberTooLarge}
 use Rattle.td_certificate.specs.declared.fields.Reason.TheVariants as reason
 use Rattle.td_certificate.specs.declared.question.Version.{Version}
-use Rattle.td_certificate.specs.declared.question.Version.TheVariants.{First, Second, Third, Fourth, Fifth}
+use Rattle.td_certificate.specs.declared.question.Version.TheVariants.{First, Second, Third, Fourth}
 use Rattle.td_certificate.specs.Spelling.{greatest}
 use Rattle.td_certificate.specs.Reading.{Wrong, Reading, ◌>>=◌, literal, taken, begins_number, front_number, is_version, version_reason, because, version_of_digit, digit_at, version_at, certificate_at}
 use Rattle.td_certificate.specs.Faults.{NoDigit, IsOther, VersionsAreReported, kind_of, kind_in}
@@ -72,7 +72,7 @@ shape_begins n ds later (one lt is) none = ap (λ (t : List ℕ). begins_number 
 shape_begins n ds later (more _ d e es is low high digit) none = ap (λ (t : List ℕ). begins_number (t ++ later)) is ∙ more_begin d e (es ++ later) low high
 
 not_version : (n : ℕ) → IsOther n → is_version n ≡ false
-not_version n other = rw (ne_eqb n 1 (other First), ne_eqb n 2 (other Second), ne_eqb n 3 (other Third), ne_eqb n 4 (other Fourth), ne_eqb n 5 (other Fifth)) refl
+not_version n other = rw (ne_eqb n 1 (other First), ne_eqb n 2 (other Second), ne_eqb n 3 (other Third), ne_eqb n 4 (other Fourth)) refl
 
 reason_at : (n : ℕ) (behind : List ℕ) → IsOther n → begins_number behind ≡ true → front_number 0 behind ≡ n → version_reason behind ≡ cond (leb n greatest) reason.Version NumberTooLarge
 unfolding version_reason
@@ -113,7 +113,6 @@ other_digit n other =
       ne_eqb (48 + n) 50 (λ e. other Second (omega (arith, e))),
       ne_eqb (48 + n) 51 (λ e. other Third (omega (arith, e))),
       ne_eqb (48 + n) 52 (λ e. other Fourth (omega (arith, e))),
-      ne_eqb (48 + n) 53 (λ e. other Fifth (omega (arith, e))),
     ) refl
 
 shape_stops : (n : ℕ) (ds later : List ℕ) → IsOther n → Shape n ds → Stops (ds ++ later)

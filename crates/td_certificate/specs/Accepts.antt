@@ -13,7 +13,7 @@ use Rattle.td_domain.specs.Cubes.{IsIn, IsPoint}
 use Rattle.td_domain.specs.Admits.{Admitted, IsAdmitted, HasAdmitted}
 use Rattle.td_domain.specs.Bounds.{IsBound}
 use Rattle.td_domain.specs.Together.{both_functions}
-use Rattle.td_domain.specs.Worst.{IsWorst}
+use Rattle.td_domain.specs.Worst.{IsUpperBound, IsWorst}
 use Rattle.td_arrival.specs.Arrivals.{arrival_functions}
 use Rattle.td_ternary.specs.Possibles.{possible_functions}
 use Rattle.td_edges.specs.EdgeSignals.{edge_functions}
@@ -68,7 +68,7 @@ IsOfCube setting admit cube (node.Point time) = HasDelay setting cube time
 IsOfCube setting admit cube node.Empty = ¬ HasAdmitted admit cube
 IsOfCube setting admit cube (node.Refuted refuted) = IsRefuted setting admit cube refuted.steps refuted.bound
 
--- the number of a leaf is at most the time
+-- the number of a leaf is at most this
 abbrev pub IsWithin : ℕ → Node → Type 0
 IsWithin most (node.Bound domain bound) = bound ≤ most
 IsWithin most (node.Point time) = time ≤ most
@@ -107,10 +107,21 @@ pub record Accepts (netlist : Netlist) (c : Certificate) : Type 0 where
   pub admitted : IsAdmitted c.question.admit c.pair
   pub reached : HasItsTime netlist c
   pub tree : IsTree c.tree
-  pub good : AllByRecursion (IsGood (setting_of netlist c) c.question.admit c.time) (lines_in c)
+  pub good : AllByRecursion (IsGood (setting_of netlist c) c.question.admit c.high) (lines_in c)
 
--- the time of a certificate that is accepted of a netlist without a loop is the worst delay of the
--- admitted pairs
+-- what a certificate claims: its pair is admitted and has its time, and no admitted pair changes an
+-- output after the other moment
+pub record IsClaim (setting : Setting) (c : Certificate) : Type 0 where
+  pub admitted : IsAdmitted c.question.admit c.pair
+  pub reached : IsDelayOfBits setting c.pair.first c.pair.second c.time
+  pub bounded : IsUpperBound setting c.question.admit c.high
+
+-- what a certificate claims that is accepted of a netlist without a loop is true
+abbrev pub AcceptedIsTrue : Type 0
+AcceptedIsTrue = (netlist : Netlist) (c : Certificate) → IsWellFormed netlist → (¬ Loop netlist) → AreMoments netlist c.question.moments
+    → Accepts netlist c → IsClaim (setting_of netlist c) c
+
+-- where its two moments are one, that is the worst delay of the admitted pairs
 abbrev pub AcceptedIsWorst : Type 0
 AcceptedIsWorst = (netlist : Netlist) (c : Certificate) → IsWellFormed netlist → (¬ Loop netlist) → AreMoments netlist c.question.moments
-    → Accepts netlist c → IsWorst (setting_of netlist c) c.question.admit c.time
+    → Accepts netlist c → c.high ≡ c.time → IsWorst (setting_of netlist c) c.question.admit c.time

@@ -1,16 +1,25 @@
 -- What a certificate is about, and by which version of its text that can be said.
-use Rattle.std.specs.Prelude.{ℕ, Bool, true, false, List, length, not, ◌==◌, ◌&&◌, if◌then◌else◌, replicate}
+use Rattle.std.specs.Prelude.{ℕ, Bool, true, false, List, length, not, ◌==◌, ◌&&◌, if◌then◌else◌, replicate, Option, Some, None}
 use Rattle.std.specs.List.{list_all}
+use Rattle.td_gates.specs.Delays.{Delays}
 use Rattle.td_domain.specs.declared.cubes.Trit.{Trit}
 use Rattle.td_domain.specs.declared.cubes.Trit.TheVariants.{Free}
 use Rattle.td_domain.specs.Admits.{Admitted, all_pairs}
 use Rattle.td_certificate.specs.declared.question.Version.{Version}
-use Rattle.td_certificate.specs.declared.question.Version.TheVariants.{First, Second, Third, Fourth, Fifth}
+use Rattle.td_certificate.specs.declared.question.Version.TheVariants.{First, Second, Third, Fourth}
 
--- which pairs are admitted, and for each input the moment at which it takes its second level
+-- How the netlist is read: the delays of gates that state none, and the numbers of the outputs that
+-- are asked about, where not all are.
+pub record Terms : Type 0 where
+  pub default : Delays
+  pub outputs : Option (List ℕ)
+
+-- Which pairs are admitted, and for each input the moment at which it takes its second level. The
+-- terms stand in a text of the fourth version alone.
 pub record Question : Type 0 where
   pub admit : Admitted
   pub moments : List ℕ
+  pub terms : Option Terms
 
 -- the number of inputs
 abbrev pub inputs_of : Question → ℕ
@@ -32,15 +41,23 @@ admits_all admit = list_all is_free admit.pins && (holds_none admit.held && (adm
 abbrev pub is_at_once : List ℕ → Bool
 is_at_once moments = list_all (λ moment. moment == 0) moments
 
--- The version of a question's text, where no leaf is bounded by edges or refuted: the first where
--- all pairs are admitted and all inputs change at moment 0, the second where pairs are restricted,
--- the third where an input changes later.
+-- The version of a question's text without terms: the first where all pairs are admitted and all
+-- inputs change at moment 0, the second where pairs are restricted, the third where an input changes
+-- later.
+abbrev pub plain_version : Admitted → List ℕ → Version
+plain_version admit moments = if is_at_once moments then (if admits_all admit then First else Second) else Third
+
+abbrev pub version_by : Option Terms → Admitted → List ℕ → Version
+version_by None admit moments = plain_version admit moments
+version_by (Some terms) admit moments = Fourth
+
+-- the version of a question's text: the fourth where it has terms
 abbrev pub version_of : Question → Version
-version_of question = if is_at_once question.moments then (if admits_all question.admit then First else Second) else Third
+version_of question = version_by question.terms question.admit question.moments
 
 -- the question of the first version for this number of inputs
 abbrev pub all_at_once : ℕ → Question
-all_at_once inputs = record { admit = all_pairs inputs; moments = replicate inputs 0 }
+all_at_once inputs = record { admit = all_pairs inputs; moments = replicate inputs 0; terms = None }
 
 -- the number in the first line
 abbrev pub version_number : Version → ℕ
@@ -48,4 +65,3 @@ version_number First = 1
 version_number Second = 2
 version_number Third = 3
 version_number Fourth = 4
-version_number Fifth = 5

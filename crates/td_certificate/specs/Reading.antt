@@ -10,19 +10,20 @@ use Rattle.td_certificate.specs.declared.tree.BoundedBy.TheVariants.{Arrival, Po
 use Rattle.td_certificate.specs.declared.tree.Node.{Node}
 use Rattle.td_certificate.specs.declared.tree.Node.TheVariants as node
 use Rattle.td_certificate.specs.declared.question.Version.{Version}
-use Rattle.td_certificate.specs.declared.question.Version.TheVariants.{First, Second, Third, Fourth, Fifth}
+use Rattle.td_certificate.specs.declared.question.Version.TheVariants.{First, Second, Third, Fourth}
 use Rattle.td_certificate.specs.declared.fields.Reason.{Reason}
 use Rattle.td_certificate.specs.declared.fields.Reason.TheVariants.{Syntax, NumberTooLarge}
 use Rattle.td_certificate.specs.declared.fields.Reason.TheVariants as reason
 use Rattle.td_certificate.specs.declared.fields.Leaves.{Leaves}
 use Rattle.td_certificate.specs.declared.fields.Leaves.TheVariants as leaves
-use Rattle.td_certificate.specs.Trees.{sides, names_edges, is_refuted}
+use Rattle.td_certificate.specs.Trees.{sides}
 use Rattle.td_certificate.specs.declared.certificate.Certificate.{Certificate}
-use Rattle.td_certificate.specs.Questions.{Question, is_free, holds_none, all_at_once}
+use Rattle.td_gates.specs.Delays.{Delays}
+use Rattle.td_certificate.specs.Questions.{Terms, Question, is_free, holds_none, all_at_once}
 use Rattle.td_domain.specs.Cubes.{weave}
 use Rattle.td_certificate.specs.Text.{bit, trit, hold}
 use Rattle.td_certificate.specs.Spelling.{greatest, latest}
-use Rattle.td_certificate.specs.StepReading.{refuted_at}
+use Rattle.td_certificate.specs.StepReading.{numbers_at, refuted_at}
 pub use Rattle.td_certificate.specs.Fields.{Stop, Ends, Wrong, Reading, ◌>>=◌, Fails, Gives, byte_at, begins_with_zero, written_as, taken, char_at}
 unfoldable pub use Rattle.td_certificate.specs.Fields.{literal, digits_at, number_at, number_from, number_behind}
 
@@ -81,7 +82,7 @@ IsUpTo most number None = most < number
 
 -- one of the versions has this number
 abbrev pub is_version : ℕ → Bool
-is_version number = number == 1 || (number == 2 || (number == 3 || (number == 4 || number == 5)))
+is_version number = number == 1 || (number == 2 || (number == 3 || number == 4))
 
 -- Why no version stands here: another number is another version, or passes the greatest; with no
 -- other it is the syntax.
@@ -102,10 +103,9 @@ version_digit First = 49
 version_digit Second = 50
 version_digit Third = 51
 version_digit Fourth = 52
-version_digit Fifth = 53
 
 abbrev pub version_of_digit : ℕ → Option Version
-version_of_digit b = written_as version_digit (First ∷ Second ∷ Third ∷ Fourth ∷ Fifth ∷ []) b
+version_of_digit b = written_as version_digit (First ∷ Second ∷ Third ∷ Fourth ∷ []) b
 
 -- a version's digit and the newline
 unfoldable pub digit_at : List ℕ → Reading Version
@@ -129,7 +129,6 @@ has_inputs First = false
 has_inputs Second = true
 has_inputs Third = true
 has_inputs Fourth = false
-has_inputs Fifth = false
 
 -- the greatest number of flips: in the second version one less where nothing is pinned or held
 abbrev pub most_flips : Version → List Trit → List Bool → ℕ
@@ -180,7 +179,7 @@ at_line later (suc count) bytes = do
   moments_at later (suc count) behind.1
 
 abbrev pub asked : Admitted → List ℕ → Question
-asked admit moments = record { admit = admit; moments = moments }
+asked admit moments = record { admit = admit; moments = moments; terms = None }
 
 -- the lines `first` to `at`, with a moment that isn't 0 where one has to be later
 unfoldable pub dated_at : Version → Bool → ℕ → List ℕ → Reading Question
@@ -189,6 +188,49 @@ dated_at version later inputs bytes = do
   moments ← at_line later inputs admit.1
   Ok (asked admit.0 moments.0, moments.1)
 
+-- a delay, from 1 on; what passes the most is no delay
+unfoldable pub steps_at : ℕ → List ℕ → Reading ℕ
+steps_at close bytes = because Syntax (number_from true latest close bytes)
+
+abbrev pub delays : ℕ → ℕ → Delays
+delays rise fall = record { rise = rise; fall = fall }
+
+-- the line `default`
+unfoldable pub default_at : List ℕ → Reading Delays
+default_at bytes = do
+  word ← literal (codes "default ") bytes
+  rise ← steps_at 32 word.1
+  fall ← steps_at 10 rise.1
+  Ok (delays rise.0 fall.0, fall.1)
+
+-- all outputs, or the numbers of those that are asked about
+unfoldable pub outputs_at : List ℕ → Reading (Option (List ℕ))
+outputs_at [] = Err Ends
+outputs_at (b ∷ rest) = if b == 97 then (literal (codes "all\n") (b ∷ rest) >>= λ word. Ok (None, word.1))
+    else (numbers_at (b ∷ rest) >>= λ numbers. Ok (Some numbers.0, numbers.1))
+
+abbrev pub terms_by : Delays → Option (List ℕ) → Terms
+terms_by default outputs = record { default = default; outputs = outputs }
+
+-- the lines `default` and `output`
+unfoldable pub terms_at : List ℕ → Reading Terms
+terms_at bytes = do
+  default ← default_at bytes
+  word ← literal (codes "output ") default.1
+  outputs ← outputs_at word.1
+  Ok (terms_by default.0 outputs.0, outputs.1)
+
+abbrev pub with_terms : Terms → Question → Question
+with_terms terms question = record { admit = question.admit; moments = question.moments; terms = Some terms }
+
+-- the lines `default` to `keep`
+unfoldable pub told_at : ℕ → List ℕ → Reading Question
+told_at inputs bytes = do
+  terms ← terms_at bytes
+  question ← dated_at Fourth false inputs terms.1
+  keep ← literal (codes "keep none\n") question.1
+  Ok (with_terms terms.0 question.0, keep.1)
+
 -- the lines of a question
 unfoldable pub question_at : Version → ℕ → List ℕ → Reading Question
 question_at First inputs bytes = Ok (all_at_once inputs, bytes)
@@ -196,8 +238,7 @@ question_at Second inputs bytes = do
   admit ← admit_at Second inputs bytes
   Ok (asked admit.0 (replicate inputs 0), admit.1)
 question_at Third inputs bytes = dated_at Third true inputs bytes
-question_at Fourth inputs bytes = dated_at Fourth false inputs bytes
-question_at Fifth inputs bytes = dated_at Fifth false inputs bytes
+question_at Fourth inputs bytes = told_at inputs bytes
 
 -- ---- the tree
 
@@ -214,9 +255,6 @@ abbrev pub domains : Leaves → List BoundedBy
 domains leaves.First = Arrival ∷ Possible ∷ Both ∷ []
 domains leaves.Later = Arrival ∷ Possible ∷ Both ∷ []
 domains leaves.Any = Arrival ∷ Possible ∷ Both ∷ Edges ∷ EdgesAndPossible ∷ []
-domains leaves.OfEdges = Edges ∷ EdgesAndPossible ∷ []
-domains leaves.WithRefuted = Arrival ∷ Possible ∷ Both ∷ Edges ∷ EdgesAndPossible ∷ []
-domains leaves.OfRefuted = Arrival ∷ Possible ∷ Both ∷ Edges ∷ EdgesAndPossible ∷ []
 
 abbrev pub domain_of : Leaves → ℕ → Option BoundedBy
 domain_of here b = written_as domain_byte (domains here) b
@@ -243,10 +281,7 @@ tag_byte RefutedTag = 120
 abbrev pub tags : Leaves → List Tag
 tags leaves.First = SplitTag ∷ BoundTag ∷ PointTag ∷ []
 tags leaves.Later = SplitTag ∷ BoundTag ∷ PointTag ∷ EmptyTag ∷ []
-tags leaves.Any = SplitTag ∷ BoundTag ∷ PointTag ∷ EmptyTag ∷ []
-tags leaves.OfEdges = SplitTag ∷ BoundTag ∷ []
-tags leaves.WithRefuted = SplitTag ∷ BoundTag ∷ PointTag ∷ EmptyTag ∷ RefutedTag ∷ []
-tags leaves.OfRefuted = SplitTag ∷ RefutedTag ∷ []
+tags leaves.Any = SplitTag ∷ BoundTag ∷ PointTag ∷ EmptyTag ∷ RefutedTag ∷ []
 
 unfoldable pub tag_at : Leaves → List ℕ → Reading Tag
 tag_at here bytes = char_at (λ b. written_as tag_byte (tags here) b) bytes
@@ -278,52 +313,37 @@ node_at here bytes = do
   tag ← tag_at here bytes
   behind_tag here tag.0 tag.1
 
--- the leaves of a tree, by the version: in the fourth one of them is bounded by edges, in the fifth
--- one is refuted
+-- the leaves of a tree, by the version
 abbrev pub leaves_in : Version → Leaves
 leaves_in First = leaves.First
 leaves_in Second = leaves.Later
 leaves_in Third = leaves.Later
-leaves_in Fourth = leaves.OfEdges
-leaves_in Fifth = leaves.OfRefuted
-
--- the leaves that may stand before this number of other subtrees: where a leaf bounded by edges, or
--- a refuted one, is still to come, the last leaf has to be it
-abbrev pub leaves_before : Leaves → ℕ → Leaves
-leaves_before leaves.First others = leaves.First
-leaves_before leaves.Later others = leaves.Later
-leaves_before leaves.Any others = leaves.Any
-leaves_before leaves.OfEdges zero = leaves.OfEdges
-leaves_before leaves.OfEdges (suc others) = leaves.Any
-leaves_before leaves.WithRefuted others = leaves.WithRefuted
-leaves_before leaves.OfRefuted zero = leaves.OfRefuted
-leaves_before leaves.OfRefuted (suc others) = leaves.WithRefuted
-
--- the leaves after a node
-abbrev pub leaves_behind : Leaves → Node → Leaves
-leaves_behind leaves.First n = leaves.First
-leaves_behind leaves.Later n = leaves.Later
-leaves_behind leaves.Any n = leaves.Any
-leaves_behind leaves.OfEdges n = if names_edges n then leaves.Any else leaves.OfEdges
-leaves_behind leaves.WithRefuted n = leaves.WithRefuted
-leaves_behind leaves.OfRefuted n = if is_refuted n then leaves.WithRefuted else leaves.OfRefuted
+leaves_in Fourth = leaves.Any
 
 -- the nodes of `pending` subtrees, at most `count` of them
 unfoldable pub nodes_within : Leaves → ℕ → ℕ → List ℕ → Reading (List Node)
 nodes_within here count zero bytes = Ok ([], bytes)
 nodes_within here zero (suc pending) bytes = Err Ends
 nodes_within here (suc count) (suc pending) bytes = do
-  first ← node_at (leaves_before here pending) bytes
-  others ← nodes_within (leaves_behind here first.0) count (sides first.0 + pending) first.1
+  first ← node_at here bytes
+  others ← nodes_within here count (sides first.0 + pending) first.1
   Ok (first.0 ∷ others.0, others.1)
 
 -- the nodes of `pending` subtrees
 unfoldable pub nodes_at : Leaves → ℕ → List ℕ → Reading (List Node)
 nodes_at here pending bytes = nodes_within here (length bytes) pending bytes
 
-abbrev pub with_fields : ℕ → Question → ℕ → List Bool → List Bool → List Node → Certificate
-with_fields gates question time first second tree =
-    record { gates = gates; question = question; time = time; pair = record { first = first; second = second }; tree = tree }
+-- the line of the moment after which no admitted pair changes an output; before the fourth version it
+-- is the time
+unfoldable pub high_at : Version → ℕ → List ℕ → Reading ℕ
+high_at First time bytes = Ok (time, bytes)
+high_at Second time bytes = Ok (time, bytes)
+high_at Third time bytes = Ok (time, bytes)
+high_at Fourth time bytes = number_behind (codes "high ") greatest 10 bytes
+
+abbrev pub with_fields : ℕ → Question → ℕ → ℕ → List Bool → List Bool → List Node → Certificate
+with_fields gates question time high first second tree =
+    record { gates = gates; question = question; time = time; high = high; pair = record { first = first; second = second }; tree = tree }
 
 -- ---- the whole
 
@@ -335,10 +355,11 @@ lines_at version bytes = do
   gates ← number_at 200000 10 inputs.1
   question ← question_at version inputs.0 gates.1
   time ← number_behind (codes "time ") greatest 10 question.1
-  first ← row_behind (codes "from ") bit_of inputs.0 time.1
+  high ← high_at version time.0 time.1
+  first ← row_behind (codes "from ") bit_of inputs.0 high.1
   second ← row_behind (codes "to ") bit_of inputs.0 first.1
   tree ← nodes_at (leaves_in version) 1 second.1
-  Ok (with_fields gates.0 question.0 time.0 first.0 second.0 tree.0, tree.1)
+  Ok (with_fields gates.0 question.0 time.0 high.0 first.0 second.0 tree.0, tree.1)
 
 -- a certificate, and the bytes after it
 unfoldable pub certificate_at : List ℕ → Reading Certificate

@@ -1,16 +1,17 @@
 -- Certificates and their one spelling: lines, each ended by a newline.
-use Rattle.std.specs.Prelude.{◌≡◌, ◌≢◌, ℕ, ◌*◌, ◌≤◌, if◌then◌else◌, List, [], ◌∷◌, ◌++◌, length, map, codes, decimal}
+use Rattle.std.specs.Prelude.{◌≡◌, ◌≢◌, ℕ, ◌*◌, ◌≤◌, ◌<◌, false, List, [], ◌∷◌, ◌++◌, length, map, codes, decimal, Option, Some, None}
 use Rattle.std.specs.List.{flat_map, AllByRecursion}
 use Rattle.td_certificate.specs.declared.tree.Node.{Node}
 use Rattle.td_certificate.specs.declared.tree.Node.TheVariants as node
 use Rattle.td_certificate.specs.declared.question.Version.{Version}
-use Rattle.td_certificate.specs.declared.question.Version.TheVariants.{First, Second, Third, Fourth, Fifth}
+use Rattle.td_certificate.specs.declared.question.Version.TheVariants.{First, Second, Third, Fourth}
 use Rattle.td_certificate.specs.declared.certificate.Certificate.{Certificate}
-use Rattle.td_certificate.specs.Questions.{Question, inputs_of, version_of, version_number}
-use Rattle.td_certificate.specs.Trees.{IsTree, has_edges, has_refuted}
+use Rattle.td_certificate.specs.Questions.{Terms, Question, inputs_of, version_of, version_number}
+use Rattle.td_certificate.specs.Trees.{IsTree, is_of_edges}
 use Rattle.td_certificate.specs.Steps.{IsRefutedText}
 pub use Rattle.td_certificate.specs.Steps.{greatest}
-use Rattle.td_certificate.specs.Text.{row, bits, node_line, trit, first_trits, second_trits, hold, numbers}
+use Rattle.td_certificate.specs.Text.{row, bits, node_line, trit, first_trits, second_trits, hold, numbers, outputs}
+use Rattle.td_gates.specs.Delays.{IsInRange}
 
 -- ---- the lines
 
@@ -18,33 +19,54 @@ use Rattle.td_certificate.specs.Text.{row, bits, node_line, trit, first_trits, s
 abbrev pub inputs : Certificate → ℕ
 inputs c = inputs_of c.question
 
--- the version of its text: the fifth where a leaf is refuted, the fourth where one is bounded by
--- edges, else that of the question
+-- the version of its text
 abbrev pub version_in : Certificate → Version
-version_in c = if has_refuted c.tree then Fifth else (if has_edges c.tree then Fourth else version_of c.question)
+version_in c = version_of c.question
 
 -- what the lines of a question tell, each one of these
 pub data Field : Type 0 where
+  DefaultField : Field
+  OutputField : Field
   FirstField : Field
   SecondField : Field
   HoldField : Field
   FlipsField : Field
   AtField : Field
+  KeepField : Field
 
 -- the lines of a question, by the version
 abbrev pub fields_of : Version → List Field
 fields_of First = []
 fields_of Second = FirstField ∷ SecondField ∷ HoldField ∷ FlipsField ∷ []
 fields_of Third = FirstField ∷ SecondField ∷ HoldField ∷ FlipsField ∷ AtField ∷ []
-fields_of Fourth = FirstField ∷ SecondField ∷ HoldField ∷ FlipsField ∷ AtField ∷ []
-fields_of Fifth = FirstField ∷ SecondField ∷ HoldField ∷ FlipsField ∷ AtField ∷ []
+fields_of Fourth = DefaultField ∷ OutputField ∷ FirstField ∷ SecondField ∷ HoldField ∷ FlipsField ∷ AtField ∷ KeepField ∷ []
+
+-- the terms that a question without any is read by
+abbrev pub plain_terms : Terms
+plain_terms = record { default = record { rise = 1; fall = 1 }; outputs = None }
+
+abbrev pub terms_or_plain : Option Terms → Terms
+terms_or_plain None = plain_terms
+terms_or_plain (Some terms) = terms
+
+abbrev pub terms_of : Question → Terms
+terms_of question = terms_or_plain question.terms
+
+abbrev pub default_line : Terms → List ℕ
+default_line terms = codes "default " ++ decimal terms.default.rise ++ codes " " ++ decimal terms.default.fall
+
+abbrev pub output_line : Terms → List ℕ
+output_line terms = codes "output " ++ outputs terms.outputs
 
 abbrev pub field_line : Question → Field → List ℕ
+field_line question DefaultField = default_line (terms_of question)
+field_line question OutputField = output_line (terms_of question)
 field_line question FirstField = codes "first " ++ row trit (first_trits question.admit.pins)
 field_line question SecondField = codes "second " ++ row trit (second_trits question.admit.pins)
 field_line question HoldField = codes "hold " ++ row hold question.admit.held
 field_line question FlipsField = codes "flips " ++ decimal question.admit.flips
 field_line question AtField = codes "at " ++ numbers question.moments
+field_line question KeepField = codes "keep none"
 
 abbrev pub question_lines : Version → Question → List (List ℕ)
 question_lines version question = map (field_line question) (fields_of version)
@@ -58,6 +80,13 @@ circuit_line c = codes "circuit " ++ decimal (inputs c) ++ codes " " ++ decimal 
 abbrev pub time_line : Certificate → List ℕ
 time_line c = codes "time " ++ decimal c.time
 
+-- in the fourth version a line tells the moment after which no admitted pair changes an output
+abbrev pub high_lines : Version → ℕ → List (List ℕ)
+high_lines First high = []
+high_lines Second high = []
+high_lines Third high = []
+high_lines Fourth high = (codes "high " ++ decimal high) ∷ []
+
 abbrev pub from_line : Certificate → List ℕ
 from_line c = codes "from " ++ bits c.pair.first
 
@@ -67,7 +96,8 @@ to_line c = codes "to " ++ bits c.pair.second
 -- the lines before the tree
 abbrev pub head_lines : Certificate → List (List ℕ)
 head_lines c =
-    version_line (version_in c) ∷ circuit_line c ∷ (question_lines (version_in c) c.question ++ time_line c ∷ from_line c ∷ to_line c ∷ [])
+    version_line (version_in c) ∷ circuit_line c
+    ∷ (question_lines (version_in c) c.question ++ time_line c ∷ (high_lines (version_in c) c.high ++ from_line c ∷ to_line c ∷ []))
 
 -- a line and its newline
 abbrev pub ended : List ℕ → List ℕ
@@ -90,14 +120,30 @@ spelling c = text_of (head_lines c ++ map node_line c.tree)
 abbrev pub latest : ℕ
 latest = 1000000000
 
--- a node of a text of this version: numbers up to the greatest, and leaves without an admitted pair
--- only from the second version on
+-- A node of a text of this version: numbers up to the greatest, leaves without an admitted pair only
+-- from the second version on, and those that are bounded by edges or refuted only in the fourth.
 abbrev pub IsNode : Version → Node → Type 0
 IsNode version (node.Split position) = position ≤ greatest
-IsNode version (node.Bound domain bound) = bound ≤ greatest
+IsNode version (node.Bound domain bound) = (bound ≤ greatest) × (version ≢ Fourth → is_of_edges domain ≡ false)
 IsNode version (node.Point time) = time ≤ greatest
 IsNode version node.Empty = version ≢ First
-IsNode version (node.Refuted refuted) = IsRefutedText refuted
+IsNode version (node.Refuted refuted) = IsRefutedText refuted × (version ≡ Fourth)
+
+-- before the fourth version the time alone is told
+abbrev pub IsHigh : Version → ℕ → ℕ → Type 0
+IsHigh First time high = high ≡ time
+IsHigh Second time high = high ≡ time
+IsHigh Third time high = high ≡ time
+IsHigh Fourth time high = high ≤ greatest
+
+-- numbers of outputs, at least one, each up to the greatest
+abbrev pub AreOutputs : Option (List ℕ) → Type 0
+AreOutputs None = Unit {0}
+AreOutputs (Some numbers) = (0 < length numbers) × AllByRecursion (λ number. number ≤ greatest) numbers
+
+abbrev pub AreTerms : Option Terms → Type 0
+AreTerms None = Unit {0}
+AreTerms (Some terms) = IsInRange terms.default × AreOutputs terms.outputs
 
 -- its numbers are within their limits, there are two pins, a moment and a bit of each vector for
 -- each input, and its nodes are one tree's
@@ -108,7 +154,9 @@ pub record HasSpelling (c : Certificate) : Type 0 where
   pub flips : c.question.admit.flips ≤ inputs_of c.question
   pub count : length c.question.moments ≡ inputs_of c.question
   pub moments : AllByRecursion (λ moment. moment ≤ latest) c.question.moments
+  pub terms : AreTerms c.question.terms
   pub time : c.time ≤ greatest
+  pub high : IsHigh (version_in c) c.time c.high
   pub first : length c.pair.first ≡ inputs_of c.question
   pub second : length c.pair.second ≡ inputs_of c.question
   pub nodes : AllByRecursion (IsNode (version_in c)) c.tree

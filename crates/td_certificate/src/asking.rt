@@ -1,14 +1,15 @@
 //! Reading what a certificate is about.
 
-ghost use Rattle.std.specs.Prelude.{◌≡◌, ◌≤◌, ◌<◌, ◌^◌, ◌==◌, ◌&&◌, length, true, IfOk};
+ghost use Rattle.std.specs.Prelude.{◌≡◌, ◌≤◌, ◌<◌, ◌^◌, ◌==◌, ◌&&◌, length, true, option_map, IfOk};
 ghost use Rattle.td_certificate.specs.declared.question.Version.TheVariants as of_version;
 ghost use Rattle.td_domain.specs.Cubes.{weave};
 ghost use Rattle.td_certificate.specs.Tails.{limited_at};
-ghost use Rattle.td_certificate.specs.Reading.{Gives, most_flips, flips_at, admit_at, moment_at, moments_at, at_line, dated_at, question_at};
+ghost use Rattle.td_certificate.specs.Reading.{Gives, most_flips, flips_at, admit_at, moment_at, moments_at, at_line, dated_at, steps_at, delays, default_at, outputs_at, terms_at, told_at, question_at};
 
 use crate::characters::{Holds, Trits, row};
 use crate::fields::{Reason, Stop, literal, number_behind, number_from};
-use crate::question::{Question, Version, are_free, holds_none};
+use crate::question::{Question, Terms, Version, are_free, holds_none};
+use crate::steps::numbers;
 use std::alloc::{AllocError, Global};
 use td_circuit::LATEST;
 use td_domain::{Admit, Cube, Trit};
@@ -27,7 +28,7 @@ fn most_flips(version: Version, pins: &Cube, held: &[bool]) -> u64
                 inputs
             }
         }
-        Version::First | Version::Third | Version::Fourth | Version::Fifth => inputs,
+        Version::First | Version::Third | Version::Fourth => inputs,
     }
 }
 
@@ -143,6 +144,76 @@ fn dated(
     Ok((Question::new(admit, moments), rest))
 }
 
+/// Takes a delay and the byte that closes it.
+#[tactic(auto, unfolding(crate::specs::Reading::steps_at))]
+fn steps(close: u8, text: &[u8]) -> Result<(u32, &[u8]), Stop<'_>>
+    ensures { Gives (λ x. (x.0, x.1.now)) result (steps_at close text.now) }
+{
+    match number_from(true, LATEST, close, text) {
+        Err(Stop::Wrong(_, rest)) => Err(Stop::Wrong(Reason::Syntax, rest)),
+        Err(other) => Err(other),
+        Ok((steps, rest)) => Ok((steps as u32, rest)),
+    }
+}
+
+/// Takes the line of the delays of gates that state none.
+#[tactic(auto, unfolding(crate::specs::Reading::default_at))]
+fn default(text: &[u8]) -> Result<((u32, u32), &[u8]), Stop<'_>>
+    ensures { Gives (λ x. (delays x.0.0 x.0.1, x.1.now)) result (default_at text.now) }
+{
+    let rest = literal(b"default ", text)?;
+    let (rise, rest) = steps(b' ', rest)?;
+    let (fall, rest) = steps(b'\n', rest)?;
+    Ok(((rise, fall), rest))
+}
+
+/// Takes which outputs are asked about: none where all are.
+#[tactic(auto, unfolding(crate::specs::Reading::outputs_at))]
+fn outputs(alloc: Global, text: &[u8]) -> Result<(Option<Vec<u64>>, &[u8]), Stop<'_>>
+    ensures { Gives (λ x. (option_map (λ numbers. numbers.items) x.0, x.1.now)) result (outputs_at text.now) }
+{
+    match text {
+        [] => Err(Stop::Ends),
+        [b'a', ..] => {
+            let rest = literal(b"all\n", text)?;
+            Ok((None, rest))
+        }
+        [_, ..] => {
+            let mut asked = Vec::new(alloc);
+            let rest = numbers(text, &mut asked)?;
+            Ok((Some(asked), rest))
+        }
+    }
+}
+
+/// Takes the lines `default` and `output`.
+#[tactic(auto, unfolding(crate::specs::Reading::terms_at))]
+fn terms(alloc: Global, text: &[u8]) -> Result<(Terms, &[u8]), Stop<'_>>
+    ensures { Gives (λ x. (x.0, x.1.now)) result (terms_at text.now) }
+{
+    let ((rise, fall), rest) = default(text)?;
+    let rest = literal(b"output ", rest)?;
+    let (outputs, rest) = outputs(alloc, rest)?;
+    let terms = Terms {
+        rise,
+        fall,
+        outputs,
+    };
+    Ok((terms, rest))
+}
+
+/// Takes the lines from `default` to `keep`.
+#[tactic(auto, unfolding(crate::specs::Reading::told_at))]
+fn told(alloc: Global, inputs: u32, text: &[u8]) -> Result<(Question, &[u8]), Stop<'_>>
+    requires { inputs ≤ 4096 }
+    ensures { Gives (λ x. (x.0, x.1.now)) result (told_at inputs text.now) }
+{
+    let (terms, rest) = terms(alloc, text)?;
+    let (question, rest) = dated(alloc, Version::Fourth, false, inputs, rest)?;
+    let rest = literal(b"keep none\n", rest)?;
+    Ok((question.with_terms(terms), rest))
+}
+
 /// The question of the first version, which has no lines.
 #[tactic(auto, unfolding(crate::specs::Reading::question_at))]
 fn unrestricted(alloc: Global, inputs: u32, text: &[u8]) -> Result<(Question, &[u8]), Stop<'_>>
@@ -179,6 +250,6 @@ pub fn question(
         Version::First => unrestricted(alloc, inputs, text),
         Version::Second => restricted(alloc, inputs, text),
         Version::Third => dated(alloc, version, true, inputs, text),
-        Version::Fourth | Version::Fifth => dated(alloc, version, false, inputs, text),
+        Version::Fourth => told(alloc, inputs, text),
     }
 }

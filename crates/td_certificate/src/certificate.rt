@@ -7,30 +7,27 @@ use crate::question::{Question, Version};
 use crate::tree::Tree;
 use td_domain::Pair;
 
-/// What a search claims: the circuit's number of gates, what was asked of it, its worst delay over
-/// the admitted pairs in steps, an admitted pair of vectors that has it, and the tree of cubes that
-/// shows that no admitted pair has a greater one.
+/// What a search claims: the circuit's number of gates, what was asked of it, an admitted pair of
+/// vectors with its delay, a moment after which no admitted pair changes an output, and the tree of
+/// cubes that shows that none does. Where the two moments are one, it is the worst delay. Moments
+/// are in steps.
 #[derive(Debug, Drop)]
 pub struct Certificate {
     pub gates: u32,
     pub question: Question,
+    /// The pair's delay.
     pub time: u64,
+    /// After this moment no admitted pair changes an output.
+    pub high: u64,
     pub pair: Pair,
     pub tree: Tree,
 }
 
 impl Certificate {
-    /// The version of its text: the fifth where a leaf is refuted, the fourth where one is bounded
-    /// by edges, else the first that can tell the question.
+    /// The version of its text.
     pub fn version(&self) -> Version
         ensures { result ≡ version_in self.now }
     {
-        if self.tree.has_refuted() {
-            Version::Fifth
-        } else if self.tree.has_edges() {
-            Version::Fourth
-        } else {
-            self.question.version()
-        }
+        self.question.version()
     }
 }

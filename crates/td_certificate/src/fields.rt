@@ -2,7 +2,7 @@
 
 ghost use Rattle.std.specs.Prelude.{◌≡◌, ◌≤◌, ◌<◌, ◌+◌, ◌^◌, ◌==◌, codes, IfOk};
 ghost use Rattle.td_certificate.specs.declared.fields.Stop.TheVariants.{OutOfMemory};
-ghost use Rattle.td_certificate.specs.Reading.{Gives, byte_at, literal, digits_at, number_at, number_from, begins_with_zero, domain_of, letter_at, number_behind, behind_tag, BoundTag, PointTag, EmptyTag, RefutedTag, node_at, leaves_in, leaves_before, leaves_behind};
+ghost use Rattle.td_certificate.specs.Reading.{Gives, byte_at, literal, digits_at, number_at, number_from, begins_with_zero, domain_of, letter_at, number_behind, behind_tag, BoundTag, PointTag, EmptyTag, RefutedTag, node_at, leaves_in};
 
 use crate::question::Version;
 use crate::refuting::refuted_lines;
@@ -44,21 +44,15 @@ impl<T: Drop> From<AllocFailed<T>> for Stop<'_> {
     }
 }
 
-/// Which leaves may stand in a tree, from some place on.
+/// Which leaves may stand in a tree.
 #[derive(Clone, Copy, Drop)]
 pub enum Leaves {
-    /// Those of the first version: none without an admitted pair, none bounded by edges.
+    /// Those of the first version: each has an admitted pair.
     First,
-    /// Those of the second and the third version: none bounded by edges.
+    /// Those of the second and the third version: one without an admitted pair too.
     Later,
-    /// All, in the fourth version after a leaf bounded by edges.
+    /// Those of the fourth version: those that are bounded by edges and those that steps refute too.
     Any,
-    /// Those of the fourth version before that: one bounded by edges is still to come.
-    OfEdges,
-    /// All, in the fifth version after a refuted leaf.
-    WithRefuted,
-    /// Those of the fifth version before that: a refuted one is still to come.
-    OfRefuted,
 }
 
 impl Leaves {
@@ -69,31 +63,7 @@ impl Leaves {
         match version {
             Version::First => Leaves::First,
             Version::Second | Version::Third => Leaves::Later,
-            Version::Fourth => Leaves::OfEdges,
-            Version::Fifth => Leaves::OfRefuted,
-        }
-    }
-
-    /// Those that may stand before N other subtrees. The last leaf has to be bounded by edges, or
-    /// refuted, where one is still to come.
-    pub fn before(self, others: u64) -> Leaves
-        ensures { result ≡ leaves_before self others }
-    {
-        match self {
-            Leaves::OfEdges if others > 0 => Leaves::Any,
-            Leaves::OfRefuted if others > 0 => Leaves::WithRefuted,
-            leaves => leaves,
-        }
-    }
-
-    /// Those after a node.
-    pub fn behind(self, node: &Node) -> Leaves
-        ensures { result ≡ leaves_behind self node.now }
-    {
-        match self {
-            Leaves::OfEdges if node.names_edges() => Leaves::Any,
-            Leaves::OfRefuted if node.is_refuted() => Leaves::WithRefuted,
-            leaves => leaves,
+            Version::Fourth => Leaves::Any,
         }
     }
 }
@@ -194,15 +164,10 @@ fn domain(leaves: Leaves, letter: u8) -> Option<BoundedBy>
             b'm' => Some(BoundedBy::Both),
             _ => None,
         },
-        Leaves::Any | Leaves::WithRefuted | Leaves::OfRefuted => match letter {
+        Leaves::Any => match letter {
             b'a' => Some(BoundedBy::Arrival),
             b't' => Some(BoundedBy::Possible),
             b'm' => Some(BoundedBy::Both),
-            b'e' => Some(BoundedBy::Edges),
-            b'n' => Some(BoundedBy::EdgesAndPossible),
-            _ => None,
-        },
-        Leaves::OfEdges => match letter {
             b'e' => Some(BoundedBy::Edges),
             b'n' => Some(BoundedBy::EdgesAndPossible),
             _ => None,
@@ -295,29 +260,15 @@ pub fn node(alloc: Global, leaves: Leaves, text: &[u8]) -> Result<(Node, &[u8]),
             let (position, rest) = last_number(rest)?;
             Ok((Node::Split(position), rest))
         }
-        [b'b', rest @ ..] => match leaves {
-            Leaves::OfRefuted => Err(Stop::Wrong(Reason::Syntax, text)),
-            Leaves::First | Leaves::Later | Leaves::Any | Leaves::OfEdges | Leaves::WithRefuted => {
-                bound(leaves, rest)
-            }
-        },
-        [b'p', rest @ ..] => match leaves {
-            Leaves::OfEdges | Leaves::OfRefuted => Err(Stop::Wrong(Reason::Syntax, text)),
-            Leaves::First | Leaves::Later | Leaves::Any | Leaves::WithRefuted => {
-                point(leaves, rest)
-            }
-        },
+        [b'b', rest @ ..] => bound(leaves, rest),
+        [b'p', rest @ ..] => point(leaves, rest),
         [b'n', rest @ ..] => match leaves {
-            Leaves::First | Leaves::OfEdges | Leaves::OfRefuted => {
-                Err(Stop::Wrong(Reason::Syntax, text))
-            }
-            Leaves::Later | Leaves::Any | Leaves::WithRefuted => empty(leaves, rest),
+            Leaves::First => Err(Stop::Wrong(Reason::Syntax, text)),
+            Leaves::Later | Leaves::Any => empty(leaves, rest),
         },
         [b'x', rest @ ..] => match leaves {
-            Leaves::First | Leaves::Later | Leaves::Any | Leaves::OfEdges => {
-                Err(Stop::Wrong(Reason::Syntax, text))
-            }
-            Leaves::WithRefuted | Leaves::OfRefuted => refuted(alloc, leaves, rest),
+            Leaves::First | Leaves::Later => Err(Stop::Wrong(Reason::Syntax, text)),
+            Leaves::Any => refuted(alloc, leaves, rest),
         },
         [_, ..] => Err(Stop::Wrong(Reason::Syntax, text)),
     }

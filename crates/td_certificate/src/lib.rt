@@ -17,7 +17,7 @@ mod writing;
 
 pub use certificate::Certificate;
 pub use fault::{CertFault, CertFaultKind, WriteFault};
-pub use question::{Question, Version};
+pub use question::{Question, Terms, Version};
 pub use reading::read;
 pub use refuting::{Refuted, Steps};
 pub use tree::{BoundedBy, Node, Tree};

@@ -1,22 +1,22 @@
 //! What a certificate is about.
 
-ghost use Rattle.std.specs.Prelude.{◌≡◌};
+ghost use Rattle.std.specs.Prelude.{◌≡◌, None as Nothing, option_map};
 ghost use Rattle.std.specs.List.{list_all};
-ghost use Rattle.td_certificate.specs.Questions.{inputs_of, is_free, holds_none, admits_all, is_at_once, version_of, version_number};
+ghost use Rattle.td_certificate.specs.Questions.{inputs_of, is_free, holds_none, admits_all, is_at_once, plain_version, version_of, version_number};
+ghost use Rattle.td_certificate.specs.Reading.{with_terms};
 
 use std::marker::Model;
 use td_domain::{Admit, Cube, Trit};
 
 /// The versions of a certificate's text. The first is about all pairs of vectors, with all inputs
 /// changing at moment 0; in the second pairs are restricted; in the third an input changes later.
-/// In the fourth a leaf is bounded by edges, and in the fifth one is refuted, whatever is asked.
+/// The fourth tells all that is asked, and may have any leaf.
 #[derive(Clone, Copy, Debug, PartialEq, Eq, Drop)]
 pub enum Version {
     First,
     Second,
     Third,
     Fourth,
-    Fifth,
 }
 
 impl Version {
@@ -29,17 +29,39 @@ impl Version {
             Version::Second => 2,
             Version::Third => 3,
             Version::Fourth => 4,
-            Version::Fifth => 5,
         }
     }
 }
 
-/// What is asked of a circuit: which pairs of vectors are admitted, and for each input the moment
-/// at which it takes its second level, in steps.
+/// How a netlist is read that is asked about: the delays of gates that state none, and the numbers of
+/// the outputs that are asked about, where not all are. Outputs are numbered from 0 in the order of
+/// the port list.
+#[derive(Debug, Drop)]
+pub struct Terms {
+    /// The rise delay, in steps, from 1 on.
+    pub rise: u32,
+    /// The fall delay, in steps, from 1 on.
+    pub fall: u32,
+    pub outputs: Option<Vec<u64>>,
+}
+
+impl Model for Terms {
+    ghost use Rattle.std.specs.Prelude.{option_map};
+    ghost use Rattle.td_certificate.specs.Questions as questions;
+    ghost use Rattle.td_certificate.specs.Reading.{delays, terms_by};
+
+    ghost Value = { questions.Terms };
+
+    ghost view = { λ terms. terms_by (delays terms.rise terms.fall) (option_map (λ numbers. numbers.items) terms.outputs) };
+}
+
+/// What is asked of a circuit: which pairs of vectors are admitted, for each input the moment at
+/// which it takes its second level, in steps, and how the netlist is read, where a text tells it.
 #[derive(Debug, Drop)]
 pub struct Question {
     admit: Admit,
     moments: Vec<u64>,
+    terms: Option<Terms>,
 }
 
 impl Model for Question {
@@ -47,15 +69,37 @@ impl Model for Question {
 
     ghost Value = { questions.Question };
 
-    ghost view = { λ question. record { admit = question.admit; moments = question.moments.items } };
+    ghost view = { λ question. record { admit = question.admit; moments = question.moments.items; terms = question.terms } };
 }
 
 impl Question {
-    /// These pairs, and these moments of the inputs.
+    /// These pairs, and these moments of the inputs, without terms.
     pub fn new(admit: Admit, moments: Vec<u64>) -> Self
-        ensures { result ≡ record { admit = admit; moments = moments.items } }
+        ensures { result ≡ record { admit = admit; moments = moments.items; terms = Nothing } }
     {
-        Question { admit, moments }
+        Question {
+            admit,
+            moments,
+            terms: None,
+        }
+    }
+
+    /// The same question, with these terms.
+    pub fn with_terms(self, terms: Terms) -> Self
+        ensures { result ≡ with_terms terms self }
+    {
+        Question {
+            admit: self.admit,
+            moments: self.moments,
+            terms: Some(terms),
+        }
+    }
+
+    /// The terms, where there are any.
+    pub fn terms(&self) -> Option<&Terms>
+        ensures { option_map (λ terms. terms.now) result ≡ self.now.terms }
+    {
+        self.terms.as_ref()
     }
 
     /// Which pairs are admitted.
@@ -79,18 +123,28 @@ impl Question {
         self.admit.held().len()
     }
 
-    /// The version of a text that tells it, where no leaf is bounded by edges or refuted.
+    /// The version of a text that tells it.
     pub fn version(&self) -> Version
         ensures { result ≡ version_of self.now }
     {
-        if !is_at_once(&self.moments) {
-            return Version::Third;
+        if self.terms.is_some() {
+            return Version::Fourth;
         }
-        if admits_all(&self.admit) {
-            Version::First
-        } else {
-            Version::Second
-        }
+        plain_version(&self.admit, &self.moments)
+    }
+}
+
+/// The version of a text that tells these pairs and these moments of the inputs, without terms.
+fn plain_version(admit: &Admit, moments: &[u64]) -> Version
+    ensures { result ≡ plain_version admit.now moments.now }
+{
+    if !is_at_once(moments) {
+        return Version::Third;
+    }
+    if admits_all(admit) {
+        Version::First
+    } else {
+        Version::Second
     }
 }
 

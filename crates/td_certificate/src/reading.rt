@@ -1,9 +1,9 @@
 //! Reading a certificate's text.
 
 ghost use Rattle.std.specs.Prelude.{◌≡◌, ◌≤◌, ◌<◌, ◌+◌, ◌-◌, ◌^◌, ℕ, take, length, Some, IfOk, IfErr};
-ghost use Rattle.td_certificate.specs.Reading.{Gives, begins_number, front_number, IsUpTo, is_version, version_reason, digit_at, version_at, has_inputs, leaves_in, nodes_at, lines_at, certificate_at};
+ghost use Rattle.td_certificate.specs.Reading.{Gives, begins_number, front_number, IsUpTo, is_version, version_reason, digit_at, version_at, has_inputs, leaves_in, high_at, nodes_at, lines_at, certificate_at};
 ghost use Rattle.td_certificate.specs.Spelling.{Spells};
-ghost use Rattle.td_certificate.specs.Tails.{tree_at, answer_at};
+ghost use Rattle.td_certificate.specs.Tails.{claim_at, tree_at, answer_at};
 ghost use Rattle.td_certificate.specs.declared.certificate.Certificate.{Certificate as Contents};
 ghost use Rattle.td_certificate.specs.declared.fault.CertFaultKind.{CertFaultKind as Kind};
 ghost use Rattle.td_certificate.specs.Faults.{IsFault, kind_of, kind_in, IsWithinLimit, IsFront, HasMore, IsReadAs, IsReported, line_behind};
@@ -59,7 +59,7 @@ fn front_number(bytes: &[u8]) -> Option<u64>
 fn is_version(number: u64) -> bool
     ensures { result ≡ is_version number }
 {
-    number == 1 || number == 2 || number == 3 || number == 4 || number == 5
+    number == 1 || number == 2 || number == 3 || number == 4
 }
 
 /// What is wrong with a first line that isn't that of a version, from the byte after its word and
@@ -94,7 +94,6 @@ fn digit(text: &[u8]) -> Result<(Version, &[u8]), Stop<'_>>
         [b'2', rest @ ..] => (Version::Second, rest),
         [b'3', rest @ ..] => (Version::Third, rest),
         [b'4', rest @ ..] => (Version::Fourth, rest),
-        [b'5', rest @ ..] => (Version::Fifth, rest),
         [_, ..] => return Err(Stop::Wrong(Reason::Syntax, text)),
     };
     let rest = literal(b"\n", rest)?;
@@ -119,12 +118,11 @@ fn tree(alloc: Global, version: Version, text: &[u8]) -> Result<(Tree, &[u8]), S
 {
     let mut nodes = Vec::new(alloc);
     let mut pending = 1u64;
-    let mut leaves = Leaves::of(version);
+    let leaves = Leaves::of(version);
     let mut rest = text;
     while pending > 0 {
-        let (first, after) = node(alloc, leaves.before(pending - 1), rest)?;
+        let (first, after) = node(alloc, leaves, rest)?;
         pending = pending - 1 + first.sides();
-        leaves = leaves.behind(&first);
         nodes.push(first)?;
         rest = after;
     }
@@ -136,9 +134,37 @@ fn has_inputs(version: Version) -> bool
     ensures { result ≡ has_inputs version }
 {
     match version {
-        Version::First | Version::Fourth | Version::Fifth => false,
+        Version::First | Version::Fourth => false,
         Version::Second | Version::Third => true,
     }
+}
+
+/// The moments that a certificate tells: the pair's delay, and the one after which no admitted pair
+/// changes an output.
+#[derive(Clone, Copy, Drop)]
+struct Figures {
+    time: u64,
+    high: u64,
+}
+
+/// Takes the line of the latter moment, where a text of this version has it.
+#[tactic(auto, unfolding(crate::specs::Reading::high_at))]
+fn high(version: Version, time: u64, text: &[u8]) -> Result<(u64, &[u8]), Stop<'_>>
+    ensures { Gives (λ x. (x.0, x.1.now)) result (high_at version time text.now) }
+{
+    match version {
+        Version::First | Version::Second | Version::Third => Ok((time, text)),
+        Version::Fourth => number_behind(b"high ", GREATEST, b'\n', text),
+    }
+}
+
+/// Takes the lines of both.
+fn claim(version: Version, text: &[u8]) -> Result<(Figures, &[u8]), Stop<'_>>
+    ensures { Gives (λ x. ((x.0.time, x.0.high), x.1.now)) result (claim_at version text.now) }
+{
+    let (time, rest) = number_behind(b"time ", GREATEST, b'\n', text)?;
+    let (high, rest) = high(version, time, rest)?;
+    Ok((Figures { time, high }, rest))
 }
 
 /// Takes the tree, the last part of a certificate.
@@ -147,17 +173,18 @@ fn closed<'a>(
     version: Version,
     gates: u32,
     question: Question,
-    time: u64,
+    moments: Figures,
     pair: Pair,
     text: &'a [u8],
 ) -> Result<(Certificate, &'a [u8]), Stop<'a>>
-    ensures { Gives (λ x. (x.0, x.1.now)) result (tree_at version gates question time pair.first pair.second text.now) }
+    ensures { Gives (λ x. (x.0, x.1.now)) result (tree_at version gates question moments.time moments.high pair.first pair.second text.now) }
 {
     let (tree, rest) = tree(alloc, version, text)?;
     let certificate = Certificate {
         gates,
         question,
-        time,
+        time: moments.time,
+        high: moments.high,
         pair,
         tree,
     };
@@ -175,11 +202,11 @@ fn answered<'a>(
 ) -> Result<(Certificate, &'a [u8]), Stop<'a>>
     ensures { Gives (λ x. (x.0, x.1.now)) result (answer_at version inputs gates question text.now) }
 {
-    let (time, rest) = number_behind(b"time ", GREATEST, b'\n', text)?;
+    let (moments, rest) = claim(version, text)?;
     let (first, rest) = row::<Bits>(alloc, b"from ", inputs, rest)?;
     let (second, rest) = row::<Bits>(alloc, b"to ", inputs, rest)?;
     let pair = Pair::new(first, second);
-    closed(alloc, version, gates, question, time, pair, rest)
+    closed(alloc, version, gates, question, moments, pair, rest)
 }
 
 /// Takes the lines after the first.

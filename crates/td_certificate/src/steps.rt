@@ -50,7 +50,7 @@ fn open_number(text: &[u8]) -> Result<(u64, bool, &[u8]), Stop<'_>>
 }
 
 /// Takes at least one number, a space between each two, and the newline.
-fn numbers<'a>(text: &'a [u8], numbers: &mut Vec<u64>) -> Result<&'a [u8], Stop<'a>>
+pub fn numbers<'a>(text: &'a [u8], numbers: &mut Vec<u64>) -> Result<&'a [u8], Stop<'a>>
     requires { numbers.old.items ≡ [] }
     ensures { Gives (λ rest. (numbers.new.items, rest.now)) result (numbers_at text.now) }
 {

@@ -4,7 +4,7 @@ ghost use Rattle.std.specs.Char.{encode_utf8};
 ghost use Rattle.std.specs.Prelude.{◌≡◌, false, ◌++◌, ◌∷◌, [], if◌then◌else◌, map, codes, OnOk, OnErr, IfOk, IfErr, string_bytes};
 ghost use Rattle.td_text.specs.Output.{Sent, SentTo, SentFront, Failed, one_more};
 ghost use Rattle.td_certificate.specs.declared.question.Version.TheVariants as of_version;
-ghost use Rattle.td_certificate.specs.Spelling.{fields_of, field_line, ended, question_text, head_lines, text_of, HasSpelling, spelling};
+ghost use Rattle.td_certificate.specs.Spelling.{fields_of, field_line, default_line, output_line, terms_of, ended, question_text, high_lines, head_lines, text_of, HasSpelling, spelling};
 ghost use Rattle.td_certificate.specs.Steps.{refuted_line};
 ghost use Rattle.td_certificate.specs.Trees.{is_refuted};
 ghost use Rattle.td_certificate.specs.Sending.{StopsIn};
@@ -12,7 +12,7 @@ ghost use Rattle.td_certificate.specs.Text.{row, bits, trit, first_trits, second
 
 use crate::certificate::Certificate;
 use crate::fault::WriteFault;
-use crate::question::{Question, Version};
+use crate::question::{Question, Terms, Version};
 use crate::refuting::Refuted;
 use crate::tree::Node;
 use std::alloc::{AllocError, Global};
@@ -83,19 +83,28 @@ fn push_admit(text: &mut String, question: &Question) -> Result<(), AllocError>
     Ok(())
 }
 
-/// Puts the line `at` of these moments at the end.
-fn push_moments(text: &mut String, moments: &[u64]) -> Result<(), AllocError>
-    ensures { OnOk result (string_bytes text.new ≡ string_bytes text.old ++ ended (codes "at " ++ numbers moments.now)) }
+/// Puts a line of a word and numbers at the end, a space before each, or `none`.
+fn push_listed(text: &mut String, word: &str, listed: &[u64]) -> Result<(), AllocError>
+    ensures { OnOk result (string_bytes text.new ≡ string_bytes text.old ++ ended (word.now ++ (codes " " ++ numbers listed.now))) }
 {
-    if moments.is_empty() {
-        return text.push_str("at none\n");
+    text.push_str(word)?;
+    if listed.is_empty() {
+        text.push_str(" none\n")?;
+        return Ok(());
     }
-    text.push_str("at")?;
-    for moment in moments {
-        write!(text, " {moment}")?;
+    for number in listed {
+        write!(text, " {number}")?;
     }
     text.push_str("\n")?;
     Ok(())
+}
+
+/// Puts the lines from `first` to `at` at the end.
+fn push_dated(text: &mut String, question: &Question) -> Result<(), AllocError>
+    ensures { OnOk result (string_bytes text.new ≡ string_bytes text.old ++ question_text of_version.Third question.now) }
+{
+    push_admit(text, question)?;
+    push_listed(text, "at", question.moments())
 }
 
 /// Puts the lines that tell a question at the end, as they stand in a certificate's text of this
@@ -110,9 +119,45 @@ pub fn push_question(
     match version {
         Version::First => Ok(()),
         Version::Second => push_admit(text, question),
-        Version::Third | Version::Fourth | Version::Fifth => {
-            push_admit(text, question)?;
-            push_moments(text, question.moments())
+        Version::Third => push_dated(text, question),
+        Version::Fourth => {
+            push_terms(text, question)?;
+            push_dated(text, question)?;
+            text.push_str("keep none\n")
+        }
+    }
+}
+
+/// Puts the line `output` at the end.
+fn push_outputs(text: &mut String, terms: &Terms) -> Result<(), AllocError>
+    ensures { OnOk result (string_bytes text.new ≡ string_bytes text.old ++ ended (output_line terms.now)) }
+{
+    match &terms.outputs {
+        None => text.push_str("output all\n"),
+        Some(asked) => push_listed(text, "output", asked),
+    }
+}
+
+/// Puts the lines `default` and `output` at the end.
+fn push_told(text: &mut String, terms: &Terms) -> Result<(), AllocError>
+    ensures { OnOk result (string_bytes text.new ≡ string_bytes text.old ++ (ended (default_line terms.now) ++ ended (output_line terms.now))) }
+{
+    let rise = terms.rise;
+    let fall = terms.fall;
+    writeln!(text, "default {rise} {fall}")?;
+    push_outputs(text, terms)
+}
+
+/// Puts the lines of a question's terms at the end: those of 1 and 1 and of all outputs where it has
+/// none.
+fn push_terms(text: &mut String, question: &Question) -> Result<(), AllocError>
+    ensures { OnOk result (string_bytes text.new ≡ string_bytes text.old ++ (ended (default_line (terms_of question.now)) ++ ended (output_line (terms_of question.now)))) }
+{
+    match question.terms() {
+        Some(terms) => push_told(text, terms),
+        None => {
+            text.push_str("default 1 1\noutput all\n")?;
+            Ok(())
         }
     }
 }
@@ -130,6 +175,17 @@ fn push_bits(text: &mut String, vector: &[bool]) -> Result<(), AllocError>
     Ok(())
 }
 
+/// Puts the line of the moment after which no admitted pair changes an output at the end, where a
+/// text of this version has it.
+fn push_high(text: &mut String, version: Version, high: u64) -> Result<(), AllocError>
+    ensures { OnOk result (string_bytes text.new ≡ string_bytes text.old ++ text_of (high_lines version high)) }
+{
+    match version {
+        Version::First | Version::Second | Version::Third => Ok(()),
+        Version::Fourth => writeln!(text, "high {high}"),
+    }
+}
+
 /// The lines before the tree.
 fn head(alloc: Global, certificate: &Certificate) -> Result<String, AllocError>
     ensures { IfOk result (λ text. string_bytes text ≡ text_of (head_lines certificate.now)) }
@@ -141,7 +197,9 @@ fn head(alloc: Global, certificate: &Certificate) -> Result<String, AllocError>
     let time = certificate.time;
     let mut text = format!(in alloc; "tdelay-cert {number}\ncircuit {inputs} {gates}\n")?;
     push_question(&mut text, version, &certificate.question)?;
-    write!(text, "time {time}\nfrom ")?;
+    writeln!(text, "time {time}")?;
+    push_high(&mut text, version, certificate.high)?;
+    text.push_str("from ")?;
     push_bits(&mut text, certificate.pair.first())?;
     text.push_str("\nto ")?;
     push_bits(&mut text, certificate.pair.second())?;

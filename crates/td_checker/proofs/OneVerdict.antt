@@ -1,37 +1,46 @@
 -- A certificate has at most one verdict.
-use Rattle.std.proofs.Common.{◌≡◌, ◌<◌, ◌+◌, ℕ, zero, suc, true, false, length, List, [], ◌∷◌, take, Some, inl, inr, refl, sym, ap, subst, ◌∙◌, arith}
+use Rattle.std.proofs.Common.{◌≡◌, ◌<◌, ◌+◌, ◌*◌, ℕ, zero, suc, length, List, [], ◌∷◌, take, Option, Some, None, inl, inr, refl, sym, ap, subst, ◌∙◌, arith}
 use Rattle.std.specs.Prelude.{slice_get}
 use Rattle.std.specs.List.{AllByRecursion}
 use Rattle.std.proofs.lemmas.Bool.{cases_lt}
-use Rattle.std.proofs.lemmas.List.{append-nil}
+use Rattle.std.proofs.lemmas.List.{append-nil, length-set}
 use Rattle.td_nets.specs.Netlist.{Netlist}
 use Rattle.td_circuit.specs.Settings.{Setting}
 use Rattle.td_domain.specs.Admits.{Admitted}
-use Rattle.td_source.proofs.Naming.{reads_one}
+use Rattle.td_source.proofs.Naming.{reads_one, one_output}
 use Rattle.td_certificate.specs.declared.certificate.Certificate.{Certificate}
 use Rattle.td_domain.specs.declared.cubes.Trit.{Trit}
+use Rattle.td_domain.specs.declared.cubes.Trit.TheVariants.{Zero, One}
 use Rattle.td_refutation.specs.declared.flaw.Flaw as step_flaw
+use Rattle.td_refutation.proofs.OneVerdict.{leaf_has_one_verdict}
 use Rattle.td_certificate.specs.declared.tree.Node.{Node}
 use Rattle.td_certificate.specs.declared.tree.Node.TheVariants as node
-use Rattle.td_certificate.specs.Trees.{is_refuted, has_refuted}
+use Rattle.td_certificate.specs.Questions.{Terms}
 use Rattle.td_certificate.specs.Cubes.{cubes_past}
 use Rattle.td_certificate.specs.Spelling.{head_lines}
 use Rattle.td_certificate.specs.Walks.{position_of, Line, lines_from}
-use Rattle.td_certificate.specs.Accepts.{lines_in, IsOfCube, IsGood, IsOfSize, setting_of, HasItsTime, Accepts}
+use Rattle.td_certificate.specs.Accepts.{lines_in, SplitsFree, IsOfOnePair, IsOfCube, IsGood, IsOfSize, setting_of, HasItsTime, Accepts}
+use Rattle.td_certificate.proofs.Acceptance.{cube_fits, vector_fits}
 use Rattle.td_certificate.proofs.Texts.{spells_once}
 use Rattle.td_certificate.proofs.VectorCodes.{cases, none_not, some_is}
 use Rattle.td_checker.specs.declared.verdict.Verdict.{Verdict}
 use Rattle.td_checker.specs.declared.verdict.Verdict.TheVariants as verdict
-use Rattle.td_checker.specs.Verdicts.{Flaw, Misplaced, NotOnePair, WrongNumber, NotEmpty, AboveTime, BadStep, SaysEmpty, IsWrong, HasBadStep, HasFlaw, line_total, reported_at, IsGoodIn, HasAdmittedPair, IsFirstBad, IsVerdict, OneVerdict}
-use Rattle.td_checker.specs.Checks.{TextsHaveOneVerdict}
+use Rattle.td_checker.specs.Verdicts.{Flaw, Misplaced, NotOnePair, WrongNumber, NotEmpty, AboveTime, BadStep, SaysEmpty, IsWrong, HasBadStep, HasFlaw, line_total, reported_at, IsGoodIn, HasAdmittedPair, IsFirstBad, AreTold, AreOther, IsVerdictOn, IsVerdict, OneVerdict}
+use Rattle.td_checker.specs.Checks.{TextsHaveOneVerdict, told_by}
+
+-- the cube has two positions for each input
+abbrev IsOfInputs : Setting → List Trit → Type 0
+IsOfInputs given cube = length cube ≡ 2 * length given.netlist.inputs
+
+-- ---- lines
 
 -- a leaf's number is wrong only where it isn't so of its cube
-not_so : {X : Type 0} (given : Setting) (admit : Admitted) (cube : List Trit) (n : Node) → is_refuted n ≡ false → IsWrong given admit cube n → IsOfCube given admit cube n → X
-not_so given admit cube (node.Split position) plain wrong is = absurd wrong
-not_so given admit cube (node.Bound domain bound) plain wrong is = absurd (wrong is)
-not_so given admit cube (node.Point time) plain wrong is = absurd (wrong is)
-not_so given admit cube node.Empty plain wrong is = absurd wrong
-not_so given admit cube (node.Refuted refuted) plain wrong is = absurd (let e : true ≡ false = plain in cc)
+not_so : {X : Type 0} (given : Setting) (admit : Admitted) (cube : List Trit) (n : Node) → IsOfInputs given cube → IsWrong given admit cube n → IsOfCube given admit cube n → X
+not_so given admit cube (node.Split position) fits wrong is = absurd wrong
+not_so given admit cube (node.Bound domain bound) fits wrong is = absurd (wrong is)
+not_so given admit cube (node.Point time) fits wrong is = absurd (wrong is)
+not_so given admit cube node.Empty fits wrong is = absurd wrong
+not_so given admit cube (node.Refuted refuted) fits wrong is = absurd (leaf_has_one_verdict.refuted_or_above given admit cube refuted.steps refuted.bound fits is wrong)
 
 not_empty : {X : Type 0} (given : Setting) (admit : Admitted) (cube : List Trit) (n : Node) → IsWrong given admit cube n → SaysEmpty n → X
 not_empty given admit cube (node.Split position) wrong says = absurd says
@@ -40,67 +49,118 @@ not_empty given admit cube (node.Point time) wrong says = absurd says
 not_empty given admit cube node.Empty wrong says = absurd wrong
 not_empty given admit cube (node.Refuted refuted) wrong says = absurd says
 
-no_steps : {X : Type 0} (given : Setting) (admit : Admitted) (cube : List Trit) (n : Node) (place : ℕ) (why : step_flaw.Flaw) → is_refuted n ≡ false → HasBadStep given admit cube n place why → X
-no_steps given admit cube (node.Split position) place why plain is = absurd is
-no_steps given admit cube (node.Bound domain bound) place why plain is = absurd is
-no_steps given admit cube (node.Point time) place why plain is = absurd is
-no_steps given admit cube node.Empty place why plain is = absurd is
-no_steps given admit cube (node.Refuted refuted) place why plain is = absurd (let e : true ≡ false = plain in cc)
+-- what holds of a leaf with a bad step, of which no other flaw is looked for
+record HasOnlySteps (given : Setting) (admit : Admitted) (cube : List Trit) (n : Node) : Type 0 where
+  splits : SplitsFree cube n
+  one_pair : IsOfOnePair cube n
+  not_wrong : ¬ IsWrong given admit cube n
+  not_of_cube : ¬ IsOfCube given admit cube n
+  says_more : ¬ SaysEmpty n
 
-one_flaw : (given : Setting) (admit : Admitted) (most : ℕ) (line : Line) (this that : Flaw) → is_refuted line.node ≡ false → HasFlaw given admit most this line → HasFlaw given admit most that line
+only_steps : (given : Setting) (admit : Admitted) (cube : List Trit) (n : Node) (place : ℕ) (why : step_flaw.Flaw) → IsOfInputs given cube
+    → HasBadStep given admit cube n place why → HasOnlySteps given admit cube n
+only_steps given admit cube (node.Split position) place why fits is = absurd is
+only_steps given admit cube (node.Bound domain bound) place why fits is = absurd is
+only_steps given admit cube (node.Point time) place why fits is = absurd is
+only_steps given admit cube node.Empty place why fits is = absurd is
+only_steps given admit cube (node.Refuted refuted) place why fits is = record {
+  splits = tt;
+  one_pair = tt;
+  not_wrong = λ wrong. leaf_has_one_verdict.above_or_bad given admit cube refuted.steps refuted.bound place why fits wrong is;
+  not_of_cube = λ so. leaf_has_one_verdict.refuted_or_bad given admit cube refuted.steps refuted.bound place why fits so is;
+  says_more = λ says. says;
+}
+
+same_step : (given : Setting) (admit : Admitted) (cube : List Trit) (n : Node) (place other : ℕ) (why because : step_flaw.Flaw) → IsOfInputs given cube
+    → HasBadStep given admit cube n place why → HasBadStep given admit cube n other because → (place ≡ other) × (why ≡ because)
+same_step given admit cube (node.Split position) place other why because fits h k = absurd h
+same_step given admit cube (node.Bound domain bound) place other why because fits h k = absurd h
+same_step given admit cube (node.Point time) place other why because fits h k = absurd h
+same_step given admit cube node.Empty place other why because fits h k = absurd h
+same_step given admit cube (node.Refuted refuted) place other why because fits h k =
+    leaf_has_one_verdict.one_bad_step given admit cube refuted.steps place other why because fits h k
+
+-- a bad step is the only flaw of its line
+step_only : (given : Setting) (admit : Admitted) (most : ℕ) (line : Line) (place : ℕ) (why : step_flaw.Flaw) (that : Flaw) → IsOfInputs given line.cube
+    → HasOnlySteps given admit line.cube line.node → HasBadStep given admit line.cube line.node place why → HasFlaw given admit most that line → BadStep place why ≡ that
+step_only given admit most line place why Misplaced fits only h k = absurd (k only.splits)
+step_only given admit most line place why NotOnePair fits only h k = absurd (k.1 only.one_pair)
+step_only given admit most line place why WrongNumber fits only h k = absurd (only.not_wrong k.2)
+step_only given admit most line place why NotEmpty fits only h k = absurd (only.says_more k.3)
+step_only given admit most line place why AboveTime fits only h k = absurd (only.not_of_cube k.2)
+step_only given admit most line place why (BadStep other because) fits only h k =
+    let same = same_step given admit line.cube line.node place other why because fits h k in
+    ap (λ (p : ℕ). BadStep p why) same.0 ∙ ap (λ (w : step_flaw.Flaw). BadStep other w) same.1
+
+bad_step : (given : Setting) (admit : Admitted) (most : ℕ) (line : Line) (place : ℕ) (why : step_flaw.Flaw) (that : Flaw) → IsOfInputs given line.cube
+    → HasBadStep given admit line.cube line.node place why → HasFlaw given admit most that line → BadStep place why ≡ that
+bad_step given admit most line place why that fits h k =
+    step_only given admit most line place why that fits (only_steps given admit line.cube line.node place why fits h) h k
+
+one_flaw : (given : Setting) (admit : Admitted) (most : ℕ) (line : Line) (this that : Flaw) → IsOfInputs given line.cube → HasFlaw given admit most this line → HasFlaw given admit most that line
     → this ≡ that
-one_flaw given admit most line Misplaced (BadStep place why) p h k = no_steps given admit line.cube line.node place why p k
 one_flaw given admit most line Misplaced Misplaced p h k = refl
 one_flaw given admit most line Misplaced NotOnePair p h k = absurd (h k.0)
 one_flaw given admit most line Misplaced WrongNumber p h k = absurd (h k.0)
 one_flaw given admit most line Misplaced NotEmpty p h k = absurd (h k.0)
 one_flaw given admit most line Misplaced AboveTime p h k = absurd (h k.0)
-one_flaw given admit most line NotOnePair (BadStep place why) p h k = no_steps given admit line.cube line.node place why p k
+one_flaw given admit most line Misplaced (BadStep place why) p h k = sym (bad_step given admit most line place why Misplaced p k h)
 one_flaw given admit most line NotOnePair Misplaced p h k = absurd (k h.0)
 one_flaw given admit most line NotOnePair NotOnePair p h k = refl
 one_flaw given admit most line NotOnePair WrongNumber p h k = absurd (h.1 k.1)
 one_flaw given admit most line NotOnePair NotEmpty p h k = absurd (h.1 k.1)
 one_flaw given admit most line NotOnePair AboveTime p h k = absurd (h.1 k.1)
-one_flaw given admit most line WrongNumber (BadStep place why) p h k = no_steps given admit line.cube line.node place why p k
+one_flaw given admit most line NotOnePair (BadStep place why) p h k = sym (bad_step given admit most line place why NotOnePair p k h)
 one_flaw given admit most line WrongNumber Misplaced p h k = absurd (k h.0)
 one_flaw given admit most line WrongNumber NotOnePair p h k = absurd (k.1 h.1)
 one_flaw given admit most line WrongNumber WrongNumber p h k = refl
 one_flaw given admit most line WrongNumber NotEmpty p h k = not_empty given admit line.cube line.node h.2 k.3
 one_flaw given admit most line WrongNumber AboveTime p h k = not_so given admit line.cube line.node p h.2 k.2
-one_flaw given admit most line NotEmpty (BadStep place why) p h k = no_steps given admit line.cube line.node place why p k
+one_flaw given admit most line WrongNumber (BadStep place why) p h k = sym (bad_step given admit most line place why WrongNumber p k h)
 one_flaw given admit most line NotEmpty Misplaced p h k = absurd (k h.0)
 one_flaw given admit most line NotEmpty NotOnePair p h k = absurd (k.1 h.1)
 one_flaw given admit most line NotEmpty WrongNumber p h k = not_empty given admit line.cube line.node k.2 h.3
 one_flaw given admit most line NotEmpty NotEmpty p h k = refl
 one_flaw given admit most line NotEmpty AboveTime p h k = absurd (h.2 k.2)
-one_flaw given admit most line AboveTime (BadStep place why) p h k = no_steps given admit line.cube line.node place why p k
+one_flaw given admit most line NotEmpty (BadStep place why) p h k = sym (bad_step given admit most line place why NotEmpty p k h)
 one_flaw given admit most line AboveTime Misplaced p h k = absurd (k h.0)
 one_flaw given admit most line AboveTime NotOnePair p h k = absurd (k.1 h.1)
 one_flaw given admit most line AboveTime WrongNumber p h k = not_so given admit line.cube line.node p k.2 h.2
 one_flaw given admit most line AboveTime NotEmpty p h k = absurd (k.2 h.2)
 one_flaw given admit most line AboveTime AboveTime p h k = refl
-one_flaw given admit most line (BadStep place why) that p h k = no_steps given admit line.cube line.node place why p h
+one_flaw given admit most line AboveTime (BadStep place why) p h k = sym (bad_step given admit most line place why AboveTime p k h)
+one_flaw given admit most line (BadStep place why) that p h k = bad_step given admit most line place why that p h k
 
 -- a good line has no flaw
-flawless : {X : Type 0} (given : Setting) (admit : Admitted) (most : ℕ) (line : Line) (flaw : Flaw) → is_refuted line.node ≡ false → IsGood given admit most line
+flawless : {X : Type 0} (given : Setting) (admit : Admitted) (most : ℕ) (line : Line) (flaw : Flaw) → IsOfInputs given line.cube → IsGood given admit most line
     → HasFlaw given admit most flaw line → X
 flawless given admit most line Misplaced p good h = absurd (h good.splits)
 flawless given admit most line NotOnePair p good h = absurd (h.1 good.one_pair)
 flawless given admit most line WrongNumber p good h = not_so given admit line.cube line.node p h.2 good.of_cube
 flawless given admit most line NotEmpty p good h = absurd (h.2 good.of_cube)
 flawless given admit most line AboveTime p good h = absurd (h.3 good.within)
-flawless given admit most line (BadStep place why) p good h = no_steps given admit line.cube line.node place why p h
+flawless given admit most line (BadStep place why) p good h =
+    absurd ((only_steps given admit line.cube line.node place why p h).not_of_cube good.of_cube)
 
--- where no node is refuted, no line is
-abbrev IsPlainLine : Line → Type 0
-IsPlainLine line = is_refuted line.node ≡ false
+-- ---- the cubes of lines
 
-plain_lines : (cubes : List (List Trit)) (nodes : List Node) → has_refuted nodes ≡ false → AllByRecursion IsPlainLine (lines_from cubes nodes)
-plain_lines [] nodes none = tt
-plain_lines (cube ∷ cubes) [] none = tt
-plain_lines (cube ∷ cubes) (n ∷ nodes) none =
-    cases (is_refuted n) (λ h. absurd (let e : has_refuted (n ∷ nodes) ≡ true = rw h refl in cc))
-    (λ h. (h, plain_lines (cubes_past cube (position_of n) cubes) nodes (rw h at none)))
+abbrev HasLength : ℕ → List Trit → Type 0
+HasLength count cube = length cube ≡ count
+
+sides_fit : (count : ℕ) (cube : List Trit) (place : Option ℕ) (cubes : List (List Trit)) → HasLength count cube → AllByRecursion (HasLength count) cubes
+    → AllByRecursion (HasLength count) (cubes_past cube place cubes)
+sides_fit count cube None cubes fits all = all
+sides_fit count cube (Some position) cubes fits all =
+    (length-set cube position Zero ∙ fits, (length-set cube position One ∙ fits, all))
+
+abbrev IsOfLength : ℕ → Line → Type 0
+IsOfLength count line = HasLength count line.cube
+
+lines_fit : (count : ℕ) (cubes : List (List Trit)) (nodes : List Node) → AllByRecursion (HasLength count) cubes → AllByRecursion (IsOfLength count) (lines_from cubes nodes)
+lines_fit count [] nodes all = tt
+lines_fit count (cube ∷ cubes) [] all = tt
+lines_fit count (cube ∷ cubes) (n ∷ nodes) all =
+    (all.0, lines_fit count (cubes_past cube (position_of n) cubes) nodes (sides_fit count cube (position_of n) cubes all.0 all.1))
 
 -- what holds of each of the lines before a place holds of each of them
 pub at_place : {A : Type 0} (P : A → Type 0) (xs : List A) (i : ℕ) (x : A) → AllByRecursion P xs → slice_get xs i ≡ Some x → P x
@@ -114,30 +174,38 @@ before_place P (y ∷ xs) i zero x less all is = absurd (omega (arith, less))
 before_place P (y ∷ xs) zero (suc j) x less all is = subst P (some_is y x is) all.0
 before_place P (y ∷ xs) (suc i) (suc j) x less all is = before_place P xs i j x (omega (arith, less)) all.1 is
 
-one_place : (given : Setting) (admit : Admitted) (most : ℕ) (lines : List Line) (i j : ℕ) (x y : Line) (this that : Flaw) → IsPlainLine x → IsPlainLine y
+one_place : (given : Setting) (admit : Admitted) (most : ℕ) (lines : List Line) (i j : ℕ) (x y : Line) (this that : Flaw) → IsOfInputs given x.cube → IsOfInputs given y.cube
     → slice_get lines i ≡ Some x → slice_get lines j ≡ Some y
     → AllByRecursion (IsGood given admit most) (take i lines) → AllByRecursion (IsGood given admit most) (take j lines)
     → HasFlaw given admit most this x → HasFlaw given admit most that y → (this ≡ that) × (i ≡ j)
-one_place given admit most lines i j x y this that plain_x plain_y at_i at_j good_i good_j h k =
+one_place given admit most lines i j x y this that x_fits y_fits at_i at_j good_i good_j h k =
     elim (cases_lt i j) [
-      | inl less ↦ flawless given admit most x this plain_x (before_place (IsGood given admit most) lines i j x less good_j at_i) h
+      | inl less ↦ flawless given admit most x this x_fits (before_place (IsGood given admit most) lines i j x less good_j at_i) h
       | inr high ↦ elim (cases_lt j i) [
-        | inl more ↦ flawless given admit most y that plain_y (before_place (IsGood given admit most) lines j i y more good_i at_j) k
+        | inl more ↦ flawless given admit most y that y_fits (before_place (IsGood given admit most) lines j i y more good_i at_j) k
         | inr low ↦
             let same : i ≡ j = omega (arith, high, low) in
             let line : x ≡ y = some_is x y (sym at_i ∙ ap (slice_get lines) same ∙ at_j) in
-            (one_flaw given admit most y this that plain_y (subst (HasFlaw given admit most this) line h) k, same)
+            (one_flaw given admit most y this that y_fits (subst (HasFlaw given admit most this) line h) k, same)
       ]
     ]
 
-all_plain : (c : Certificate) (place : ℕ) (line : Line) → has_refuted c.tree ≡ false → slice_get (lines_in c) place ≡ Some line → IsPlainLine line
-all_plain c place line none stands = at_place IsPlainLine (lines_in c) place line (plain_lines (c.question.admit.pins ∷ []) c.tree none) stands
+-- the cubes of a certificate that admits its pair and has its time
+all_fit : (netlist : Netlist) (c : Certificate) (place : ℕ) (line : Line) → HasAdmittedPair c → HasItsTime netlist c → slice_get (lines_in c) place ≡ Some line
+    → IsOfInputs (setting_of netlist c) line.cube
+all_fit netlist c place line admitted reached stands =
+    let pins : List Trit = c.question.admit.pins in
+    let long = cube_fits pins c.pair.first c.pair.second admitted.pinned in
+    let fits = vector_fits (setting_of netlist c) c.pair.first c.pair.second c.time reached in
+    let count : HasLength (2 * length netlist.inputs) pins = omega (arith, long.0, fits) in
+    at_place (IsOfLength (2 * length netlist.inputs)) (lines_in c) place line (lines_fit (2 * length netlist.inputs) (pins ∷ []) c.tree (count, tt)) stands
 
-one_bad : (netlist : Netlist) (c : Certificate) (this that : Flaw) (line other : ℕ) → has_refuted c.tree ≡ false → IsFirstBad netlist c this line
+one_bad : (netlist : Netlist) (c : Certificate) (this that : Flaw) (line other : ℕ) → IsFirstBad netlist c this line
     → IsFirstBad netlist c that other → (this ≡ that) × (line ≡ other)
-one_bad netlist c this that line other none h k =
-    let found = one_place (setting_of netlist c) c.question.admit c.time (lines_in c) h.place k.place h.bad k.bad this that
-    (all_plain c h.place h.bad none h.stands) (all_plain c k.place k.bad none k.stands) h.stands k.stands h.good_before k.good_before h.has k.has in
+one_bad netlist c this that line other h k =
+    let found = one_place (setting_of netlist c) c.question.admit c.high (lines_in c) h.place k.place h.bad k.bad this that
+    (all_fit netlist c h.place h.bad h.admitted h.reached h.stands) (all_fit netlist c k.place k.bad k.admitted k.reached k.stands)
+    h.stands k.stands h.good_before k.good_before h.has k.has in
     let same : h.bad ≡ k.bad = some_is h.bad k.bad (sym h.stands ∙ ap (slice_get (lines_in c)) found.1 ∙ k.stands) in
     let reported : line_total (take h.place (lines_in c)) + reported_at this h.bad.node ≡ line_total (take k.place (lines_in c)) + reported_at that k.bad.node =
     ap (λ (p : ℕ). line_total (take p (lines_in c)) + reported_at this h.bad.node) found.1
@@ -146,9 +214,9 @@ one_bad netlist c this that line other none h k =
     (found.0, h.line_is ∙ ap (λ (n : ℕ). 1 + length (head_lines c) + n) reported ∙ sym k.line_is)
 
 -- where all lines are good, none is bad
-not_bad : {X : Type 0} (netlist : Netlist) (c : Certificate) (flaw : Flaw) (line : ℕ) → has_refuted c.tree ≡ false → Accepts netlist c → IsFirstBad netlist c flaw line → X
-not_bad netlist c flaw line none accepts bad =
-    flawless (setting_of netlist c) c.question.admit c.time bad.bad flaw (all_plain c bad.place bad.bad none bad.stands)
+not_bad : {X : Type 0} (netlist : Netlist) (c : Certificate) (flaw : Flaw) (line : ℕ) → Accepts netlist c → IsFirstBad netlist c flaw line → X
+not_bad netlist c flaw line accepts bad =
+    flawless (setting_of netlist c) c.question.admit c.high bad.bad flaw (all_fit netlist c bad.place bad.bad bad.admitted bad.reached bad.stands)
     (at_place (IsGoodIn netlist c) (lines_in c) bad.place bad.bad accepts.good bad.stands) bad.has
 
 -- ---- verdicts
@@ -168,7 +236,7 @@ data Reported (netlist : Netlist) (c : Certificate) (reported : Verdict) : Type 
   bad_line : (flaw : Flaw) (line : ℕ) → reported ≡ verdict_of flaw line → IsFirstBad netlist c flaw line → Reported netlist c reported
   all_good : reported ≡ verdict.Accepted → Accepts netlist c → Reported netlist c reported
 
-reported_as : (netlist : Netlist) (c : Certificate) (reported : Verdict) → IsVerdict netlist c reported → Reported netlist c reported
+reported_as : (netlist : Netlist) (c : Certificate) (reported : Verdict) → IsVerdictOn netlist c reported → Reported netlist c reported
 reported_as netlist c verdict.Accepted is = all_good refl is
 reported_as netlist c verdict.PairTime is = pair_time refl is.0 is.1 is.2
 reported_as netlist c (verdict.LeafBound line) is = bad_line WrongNumber line refl is
@@ -179,42 +247,89 @@ reported_as netlist c (verdict.NotAPoint line) is = bad_line NotOnePair line ref
 reported_as netlist c verdict.OtherCircuit is = other_circuit refl is
 reported_as netlist c verdict.PairNotAdmitted is = not_admitted refl is.0 is.1
 reported_as netlist c (verdict.LeafNotEmpty line) is = bad_line NotEmpty line refl is
+reported_as netlist c (verdict.OtherQuestion line) is = absurd is
 
-one_reported : (netlist : Netlist) (c : Certificate) (this that : Verdict) → has_refuted c.tree ≡ false → Reported netlist c this → Reported netlist c that → this ≡ that
-one_reported netlist c this that none (other_circuit e no_size) (other_circuit f _) = e ∙ sym f
-one_reported netlist c this that none (other_circuit e no_size) (not_admitted f size _) = absurd (no_size size)
-one_reported netlist c this that none (other_circuit e no_size) (pair_time f size _ _) = absurd (no_size size)
-one_reported netlist c this that none (other_circuit e no_size) (bad_line _ _ f bad) = absurd (no_size bad.size)
-one_reported netlist c this that none (other_circuit e no_size) (all_good f accepts) = absurd (no_size accepts.size)
-one_reported netlist c this that none (not_admitted e size barred) (other_circuit f no_size) = absurd (no_size size)
-one_reported netlist c this that none (not_admitted e size barred) (not_admitted f _ _) = e ∙ sym f
-one_reported netlist c this that none (not_admitted e size barred) (pair_time f _ admitted _) = absurd (barred admitted)
-one_reported netlist c this that none (not_admitted e size barred) (bad_line _ _ f bad) = absurd (barred bad.admitted)
-one_reported netlist c this that none (not_admitted e size barred) (all_good f accepts) = absurd (barred accepts.admitted)
-one_reported netlist c this that none (pair_time e size admitted missed) (other_circuit f no_size) = absurd (no_size size)
-one_reported netlist c this that none (pair_time e size admitted missed) (not_admitted f _ barred) = absurd (barred admitted)
-one_reported netlist c this that none (pair_time e size admitted missed) (pair_time f _ _ _) = e ∙ sym f
-one_reported netlist c this that none (pair_time e size admitted missed) (bad_line _ _ f bad) = absurd (missed bad.reached)
-one_reported netlist c this that none (pair_time e size admitted missed) (all_good f accepts) = absurd (missed accepts.reached)
-one_reported netlist c this that none (bad_line _ _ e bad) (other_circuit f no_size) = absurd (no_size bad.size)
-one_reported netlist c this that none (bad_line _ _ e bad) (not_admitted f size barred) = absurd (barred bad.admitted)
-one_reported netlist c this that none (bad_line _ _ e bad) (pair_time f size admitted missed) = absurd (missed bad.reached)
-one_reported netlist c this that none (bad_line flaw line e bad) (bad_line other place f also) =
-    let same = one_bad netlist c flaw other line place none bad also in
+one_reported : (netlist : Netlist) (c : Certificate) (this that : Verdict) → Reported netlist c this → Reported netlist c that → this ≡ that
+one_reported netlist c this that (other_circuit e no_size) (other_circuit f _) = e ∙ sym f
+one_reported netlist c this that (other_circuit e no_size) (not_admitted f size _) = absurd (no_size size)
+one_reported netlist c this that (other_circuit e no_size) (pair_time f size _ _) = absurd (no_size size)
+one_reported netlist c this that (other_circuit e no_size) (bad_line _ _ f bad) = absurd (no_size bad.size)
+one_reported netlist c this that (other_circuit e no_size) (all_good f accepts) = absurd (no_size accepts.size)
+one_reported netlist c this that (not_admitted e size barred) (other_circuit f no_size) = absurd (no_size size)
+one_reported netlist c this that (not_admitted e size barred) (not_admitted f _ _) = e ∙ sym f
+one_reported netlist c this that (not_admitted e size barred) (pair_time f _ admitted _) = absurd (barred admitted)
+one_reported netlist c this that (not_admitted e size barred) (bad_line _ _ f bad) = absurd (barred bad.admitted)
+one_reported netlist c this that (not_admitted e size barred) (all_good f accepts) = absurd (barred accepts.admitted)
+one_reported netlist c this that (pair_time e size admitted missed) (other_circuit f no_size) = absurd (no_size size)
+one_reported netlist c this that (pair_time e size admitted missed) (not_admitted f _ barred) = absurd (barred admitted)
+one_reported netlist c this that (pair_time e size admitted missed) (pair_time f _ _ _) = e ∙ sym f
+one_reported netlist c this that (pair_time e size admitted missed) (bad_line _ _ f bad) = absurd (missed bad.reached)
+one_reported netlist c this that (pair_time e size admitted missed) (all_good f accepts) = absurd (missed accepts.reached)
+one_reported netlist c this that (bad_line _ _ e bad) (other_circuit f no_size) = absurd (no_size bad.size)
+one_reported netlist c this that (bad_line _ _ e bad) (not_admitted f size barred) = absurd (barred bad.admitted)
+one_reported netlist c this that (bad_line _ _ e bad) (pair_time f size admitted missed) = absurd (missed bad.reached)
+one_reported netlist c this that (bad_line flaw line e bad) (bad_line other place f also) =
+    let same = one_bad netlist c flaw other line place bad also in
     e ∙ ap (λ x. verdict_of x line) same.0 ∙ ap (verdict_of other) same.1 ∙ sym f
-one_reported netlist c this that none (bad_line flaw line e bad) (all_good f accepts) = not_bad netlist c flaw line none accepts bad
-one_reported netlist c this that none (all_good e accepts) (other_circuit f no_size) = absurd (no_size accepts.size)
-one_reported netlist c this that none (all_good e accepts) (not_admitted f size barred) = absurd (barred accepts.admitted)
-one_reported netlist c this that none (all_good e accepts) (pair_time f size admitted missed) = absurd (missed accepts.reached)
-one_reported netlist c this that none (all_good e accepts) (bad_line flaw line f bad) = not_bad netlist c flaw line none accepts bad
-one_reported netlist c this that none (all_good e accepts) (all_good f also) = e ∙ sym f
+one_reported netlist c this that (bad_line flaw line e bad) (all_good f accepts) = not_bad netlist c flaw line accepts bad
+one_reported netlist c this that (all_good e accepts) (other_circuit f no_size) = absurd (no_size accepts.size)
+one_reported netlist c this that (all_good e accepts) (not_admitted f size barred) = absurd (barred accepts.admitted)
+one_reported netlist c this that (all_good e accepts) (pair_time f size admitted missed) = absurd (missed accepts.reached)
+one_reported netlist c this that (all_good e accepts) (bad_line flaw line f bad) = not_bad netlist c flaw line accepts bad
+one_reported netlist c this that (all_good e accepts) (all_good f also) = e ∙ sym f
+
+-- ---- the question
+
+not_both : {X : Type 0} (told : Terms) (terms : Option Terms) (line : ℕ) → AreTold told terms → AreOther told terms line → X
+not_both told None line are other = absurd other
+not_both told (Some terms) line are (inl other) = absurd (other.1 are.0)
+not_both told (Some terms) line are (inr other) = absurd (other.2 are.1)
+
+one_line : (told : Terms) (terms : Option Terms) (this that : ℕ) → AreOther told terms this → AreOther told terms that → this ≡ that
+one_line told None this that h k = absurd h
+one_line told (Some terms) this that (inl h) (inl k) = h.0 ∙ sym k.0
+one_line told (Some terms) this that (inl h) (inr k) = absurd (h.1 k.1)
+one_line told (Some terms) this that (inr h) (inl k) = absurd (k.1 h.1)
+one_line told (Some terms) this that (inr h) (inr k) = h.0 ∙ sym k.0
+
+-- the certificate is of another size, or tells no other terms
+data Judged (told : Terms) (netlist : Netlist) (c : Certificate) (judged : Verdict) : Type 0 where
+  other_terms : (line : ℕ) → judged ≡ verdict.OtherQuestion line → IsOfSize netlist c → AreOther told c.question.terms line → Judged told netlist c judged
+  by_size : (¬ IsOfSize netlist c) → IsVerdictOn netlist c judged → Judged told netlist c judged
+  by_terms : AreTold told c.question.terms → IsVerdictOn netlist c judged → Judged told netlist c judged
+
+judged_as : (told : Terms) (netlist : Netlist) (c : Certificate) (judged : Verdict) → IsVerdict told netlist c judged → Judged told netlist c judged
+judged_as told netlist c verdict.Accepted is = by_terms is.0 is.1
+judged_as told netlist c verdict.PairTime is = by_terms is.0 is.1
+judged_as told netlist c (verdict.LeafBound line) is = by_terms is.0 is.1
+judged_as told netlist c (verdict.BadStep line why) is = by_terms is.0 is.1
+judged_as told netlist c (verdict.LeafAboveTime line) is = by_terms is.0 is.1
+judged_as told netlist c (verdict.BadPosition line) is = by_terms is.0 is.1
+judged_as told netlist c (verdict.NotAPoint line) is = by_terms is.0 is.1
+judged_as told netlist c verdict.OtherCircuit is = by_size is is
+judged_as told netlist c verdict.PairNotAdmitted is = by_terms is.0 is.1
+judged_as told netlist c (verdict.LeafNotEmpty line) is = by_terms is.0 is.1
+judged_as told netlist c (verdict.OtherQuestion line) is = other_terms line refl is.0 is.1
+
+one_judged : (told : Terms) (netlist : Netlist) (c : Certificate) (this that : Verdict) → Judged told netlist c this → Judged told netlist c that → this ≡ that
+one_judged told netlist c this that (other_terms line e size other) (other_terms place f _ also) =
+    e ∙ ap (λ (l : ℕ). verdict.OtherQuestion l) (one_line told c.question.terms line place other also) ∙ sym f
+one_judged told netlist c this that (other_terms line e size other) (by_size no_size is) = absurd (no_size size)
+one_judged told netlist c this that (other_terms line e size other) (by_terms are is) = not_both told c.question.terms line are other
+one_judged told netlist c this that (by_size no_size is) (other_terms line e size other) = absurd (no_size size)
+one_judged told netlist c this that (by_terms are is) (other_terms line e size other) = not_both told c.question.terms line are other
+one_judged told netlist c this that (by_size no_size is) (by_size _ also) = one_reported netlist c this that (reported_as netlist c this is) (reported_as netlist c that also)
+one_judged told netlist c this that (by_size no_size is) (by_terms _ also) = one_reported netlist c this that (reported_as netlist c this is) (reported_as netlist c that also)
+one_judged told netlist c this that (by_terms are is) (by_size _ also) = one_reported netlist c this that (reported_as netlist c this is) (reported_as netlist c that also)
+one_judged told netlist c this that (by_terms are is) (by_terms _ also) = one_reported netlist c this that (reported_as netlist c this is) (reported_as netlist c that also)
 
 pub one_verdict : OneVerdict
-one_verdict netlist c this that none h k = one_reported netlist c this that none (reported_as netlist c this h) (reported_as netlist c that k)
+one_verdict told netlist c this that h k = one_judged told netlist c this that (judged_as told netlist c this h) (judged_as told netlist c that k)
 
 pub texts_have_one_verdict : TextsHaveOneVerdict
-texts_have_one_verdict netlist_text reading text this that plain h k =
+texts_have_one_verdict netlist_text reading text this that h k =
     let netlist : h.netlist ≡ k.netlist = reads_one netlist_text reading h.netlist k.netlist h.circuit.reads k.circuit.reads in
     let certificate : h.certificate ≡ k.certificate =
     (spells_once h.certificate k.certificate text text [] h.spells k.spells (sym (append-nil text))).0 in
-    one_verdict k.netlist k.certificate this that (plain k.certificate k.spells) (rw (netlist, certificate) at h.is) k.is
+    let output : h.output ≡ k.output = one_output netlist_text reading h.output k.output h.asked k.asked in
+    one_verdict (told_by reading k.output) k.netlist k.certificate this that (rw (netlist, certificate, output) at h.is) k.is

@@ -5,23 +5,25 @@ use Rattle.td_nets.specs.Netlist.{Netlist}
 use Rattle.td_circuit.specs.Run.{IsDelayOfBits}
 use Rattle.td_certificate.specs.declared.certificate.Certificate.{Certificate}
 use Rattle.td_certificate.specs.declared.question.Version.{Version}
-use Rattle.td_certificate.specs.declared.question.Version.TheVariants.{First, Second, Third, Fourth, Fifth}
-use Rattle.td_certificate.specs.Questions.{Question}
+use Rattle.td_certificate.specs.declared.question.Version.TheVariants.{First, Second, Third, Fourth}
+use Rattle.td_certificate.specs.Questions.{Terms, Question}
 use Rattle.td_certificate.specs.Trees.{IsTree}
-use Rattle.td_certificate.specs.Spelling.{head_lines, fields_of, field_line, HasSpelling}
+use Rattle.td_certificate.specs.Spelling.{head_lines, high_lines, fields_of, field_line, HasSpelling}
 use Rattle.td_certificate.specs.Accepts.{lines_in, IsGood, IsOfSize, setting_of, HasItsTime, Accepts}
 use Rattle.td_certificate.proofs.Acceptance.{at_moments}
 use Rattle.td_checker.specs.declared.judging.Flaw as code_flaw
 use Rattle.td_checker.specs.declared.judging.Flaw.TheVariants as code
 use Rattle.td_checker.specs.declared.checking.BadLine.{BadLine}
-use Rattle.td_checker.specs.Verdicts.{Flaw, Misplaced, NotOnePair, WrongNumber, NotEmpty, AboveTime, BadStep, HasAdmittedPair, IsFirstBad, IsVerdict}
+use Rattle.td_checker.specs.declared.verdict.Verdict.{Verdict}
+use Rattle.td_checker.specs.declared.verdict.Verdict.TheVariants as verdict
+use Rattle.td_checker.specs.Verdicts.{Flaw, Misplaced, NotOnePair, WrongNumber, NotEmpty, AboveTime, BadStep, HasAdmittedPair, IsFirstBad, AreTold, IsVerdictOn, IsVerdict}
 use Rattle.td_checker.specs.Judging.{flaw_of, IsBadAt, IsFoundBad, reported_as}
 
 pub setting_is : (netlist : Netlist) (moments : List ℕ) (c : Certificate) → moments ≡ c.question.moments → at_moments netlist moments ≡ setting_of netlist c
 setting_is netlist moments c e = ap (at_moments netlist) e
 
 first_bad : (netlist : Netlist) (c : Certificate) (flaw : Flaw) (before line : ℕ) → IsOfSize netlist c → HasAdmittedPair c → HasItsTime netlist c → IsTree c.tree
-    → line ≡ 1 + length (head_lines c) + before → IsBadAt (setting_of netlist c) c.question.admit c.time (lines_in c) flaw before → IsFirstBad netlist c flaw line
+    → line ≡ 1 + length (head_lines c) + before → IsBadAt (setting_of netlist c) c.question.admit c.high (lines_in c) flaw before → IsFirstBad netlist c flaw line
 first_bad netlist c flaw before line size admitted reached is_tree at bad = record {
   size = size;
   admitted = admitted;
@@ -36,8 +38,8 @@ first_bad netlist c flaw before line size admitted reached is_tree at bad = reco
 }
 
 reported : (netlist : Netlist) (c : Certificate) (flaw : code_flaw.Flaw) (at before line : ℕ) → IsOfSize netlist c → HasAdmittedPair c → HasItsTime netlist c
-    → IsTree c.tree → line ≡ 1 + length (head_lines c) + before → IsBadAt (setting_of netlist c) c.question.admit c.time (lines_in c) (flaw_of flaw at) before
-    → IsVerdict netlist c (reported_as flaw line)
+    → IsTree c.tree → line ≡ 1 + length (head_lines c) + before → IsBadAt (setting_of netlist c) c.question.admit c.high (lines_in c) (flaw_of flaw at) before
+    → IsVerdictOn netlist c (reported_as flaw line)
 reported netlist c code.Misplaced at before line size admitted reached is_tree is bad = first_bad netlist c Misplaced before line size admitted reached is_tree is bad
 reported netlist c code.NotOnePair at before line size admitted reached is_tree is bad = first_bad netlist c NotOnePair before line size admitted reached is_tree is bad
 reported netlist c code.WrongNumber at before line size admitted reached is_tree is bad = first_bad netlist c WrongNumber before line size admitted reached is_tree is bad
@@ -48,21 +50,21 @@ reported netlist c (code.BadStep why) at before line size admitted reached is_tr
 
 pub bad_reported : (netlist : Netlist) (moments : List ℕ) (c : Certificate) (bad : BadLine) (line : ℕ) → moments ≡ c.question.moments
     → IsOfSize netlist c → HasAdmittedPair c → IsDelayOfBits (at_moments netlist moments) c.pair.first c.pair.second c.time
-    → IsTree c.tree → line ≡ 1 + length (head_lines c) + bad.before → IsFoundBad (at_moments netlist moments) c.question.admit c.time (lines_in c) bad
-    → IsVerdict netlist c (reported_as bad.flaw line)
+    → IsTree c.tree → line ≡ 1 + length (head_lines c) + bad.before → IsFoundBad (at_moments netlist moments) c.question.admit c.high (lines_in c) bad
+    → IsVerdictOn netlist c (reported_as bad.flaw line)
 bad_reported netlist moments c bad line e size admitted reached is_tree is found =
     reported netlist c bad.flaw found.at bad.before line size admitted (subst (λ s. IsDelayOfBits s c.pair.first c.pair.second c.time) (setting_is netlist moments c e) reached) is_tree
-    is (subst (λ s. IsBadAt s c.question.admit c.time (lines_in c) (flaw_of bad.flaw found.at) bad.before) (setting_is netlist moments c e) found.bad)
+    is (subst (λ s. IsBadAt s c.question.admit c.high (lines_in c) (flaw_of bad.flaw found.at) bad.before) (setting_is netlist moments c e) found.bad)
 
 pub accepted_reported : (netlist : Netlist) (moments : List ℕ) (c : Certificate) → moments ≡ c.question.moments → IsOfSize netlist c → HasAdmittedPair c
     → IsDelayOfBits (at_moments netlist moments) c.pair.first c.pair.second c.time → IsTree c.tree
-    → AllByRecursion (IsGood (at_moments netlist moments) c.question.admit c.time) (lines_in c) → Accepts netlist c
+    → AllByRecursion (IsGood (at_moments netlist moments) c.question.admit c.high) (lines_in c) → Accepts netlist c
 accepted_reported netlist moments c e size admitted reached is_tree good = record {
   size = size;
   admitted = admitted;
   reached = subst (λ s. IsDelayOfBits s c.pair.first c.pair.second c.time) (setting_is netlist moments c e) reached;
   tree = is_tree;
-  good = subst (λ s. AllByRecursion (IsGood s c.question.admit c.time) (lines_in c)) (setting_is netlist moments c e) good;
+  good = subst (λ s. AllByRecursion (IsGood s c.question.admit c.high) (lines_in c)) (setting_is netlist moments c e) good;
 }
 
 -- the vectors of a certificate of this circuit are the circuit's
@@ -86,13 +88,26 @@ abbrev pub first_of : Version → ℕ
 first_of First = 6
 first_of Second = 10
 first_of Third = 11
-first_of Fourth = 11
-first_of Fifth = 11
+first_of Fourth = 15
 
-counted : (version : Version) (question : Question) (a b x y z : List ℕ)
-    → first_of version ≡ 1 + length (a ∷ b ∷ (map (field_line question) (fields_of version) ++ x ∷ y ∷ z ∷ []))
-counted First question a b x y z = refl
-counted Second question a b x y z = refl
-counted Third question a b x y z = refl
-counted Fourth question a b x y z = refl
-counted Fifth question a b x y z = refl
+counted : (version : Version) (question : Question) (high : ℕ) (a b x y z : List ℕ)
+    → first_of version ≡ 1 + length (a ∷ b ∷ (map (field_line question) (fields_of version) ++ x ∷ (high_lines version high ++ y ∷ z ∷ [])))
+counted First question high a b x y z = refl
+counted Second question high a b x y z = refl
+counted Third question high a b x y z = refl
+counted Fourth question high a b x y z = refl
+
+-- a verdict where the text tells no other terms
+pub with_told : (told : Terms) (netlist : Netlist) (c : Certificate) (v : Verdict) → AreTold told c.question.terms → IsVerdictOn netlist c v
+    → IsVerdict told netlist c v
+with_told told netlist c verdict.Accepted are is = (are, is)
+with_told told netlist c verdict.PairTime are is = (are, is)
+with_told told netlist c (verdict.LeafBound line) are is = (are, is)
+with_told told netlist c (verdict.LeafAboveTime line) are is = (are, is)
+with_told told netlist c (verdict.BadPosition line) are is = (are, is)
+with_told told netlist c (verdict.NotAPoint line) are is = (are, is)
+with_told told netlist c verdict.OtherCircuit are is = is
+with_told told netlist c verdict.PairNotAdmitted are is = (are, is)
+with_told told netlist c (verdict.LeafNotEmpty line) are is = (are, is)
+with_told told netlist c (verdict.BadStep line why) are is = (are, is)
+with_told told netlist c (verdict.OtherQuestion line) are is = absurd is

@@ -15,13 +15,14 @@ use Rattle.td_netlist.proofs.Readings.{one_netlist}
 use Rattle.td_circuit.specs.Loops.{LiesOnLoop}
 use Rattle.td_source.specs.declared.fault.SourceFault.{SourceFault}
 use Rattle.td_source.specs.declared.fault.SourceFault.TheVariants as source
-use Rattle.td_source.specs.Reads.{IsAskedAbout, ReadsNetlist, HasCircuit}
+use Rattle.td_source.specs.Reads.{IsAskedAbout, ReadsNetlist, HasCircuit, IsOutputOf}
 use Rattle.td_source.specs.Faults.{NamesNone, IsSourceFault}
 use Rattle.td_source.proofs.Naming.{reads_one}
 use Rattle.td_circuit.specs.Settings.{AreMoments}
 use Rattle.td_certificate.specs.declared.certificate.Certificate.{Certificate}
 use Rattle.td_certificate.specs.declared.fault.CertFaultKind.{CertFaultKind}
 use Rattle.td_certificate.specs.declared.fault.CertFaultKind.TheVariants as kind
+use Rattle.td_certificate.specs.Questions.{Terms}
 use Rattle.td_certificate.specs.Text.{node_line}
 use Rattle.td_certificate.specs.Spelling.{head_lines, ended, spelling, HasSpelling, Spells}
 use Rattle.td_domain.specs.declared.cubes.Trit.{Trit}
@@ -33,7 +34,7 @@ use Rattle.td_certificate.specs.Cubes.{cubes_past}
 use Rattle.td_certificate.specs.Walks.{position_of, lines_from}
 use Rattle.td_certificate.specs.Accepts.{lines_in, IsOfSize, Accepts}
 use Rattle.td_certificate.specs.Faults.{IsWithinLimit, IsFault}
-use Rattle.td_certificate.proofs.Acceptance.{accepted_is_worst}
+use Rattle.td_certificate.proofs.Acceptance.{accepted_is_true}
 use Rattle.td_certificate.proofs.Exclusion.{spells-front, spells-more, spells-stops}
 use Rattle.td_certificate.proofs.Texts.{spells_once}
 use Rattle.td_checker.specs.declared.verdict.Verdict.{Verdict}
@@ -42,7 +43,7 @@ use Rattle.td_checker.specs.declared.verdict.Checked.{Checked}
 use Rattle.td_checker.specs.declared.verdict.CheckFault.{CheckFault}
 use Rattle.td_checker.specs.declared.verdict.CheckFault.TheVariants as fault
 use Rattle.td_checker.specs.Verdicts.{IsVerdict, line_count, line_total}
-use Rattle.td_checker.specs.Checks.{HaveVerdict, IsCheckFault, fault_of, IsCertificateFault, IsReportedAs, TellsWorst, IsUnrefuted}
+use Rattle.td_checker.specs.Checks.{HaveVerdict, IsCheckFault, fault_of, IsCertificateFault, IsReportedAs, TellsTruth, told_by}
 use Rattle.td_checker.proofs.OneVerdict.{texts_have_one_verdict}
 
 -- ---- a text is at least as long as its lines are many
@@ -135,9 +136,9 @@ fault_is_memory netlist_text reading text (fault.Certificate reported) v is have
 
 pub reported_only : (netlist_text : List ℕ) (reading : Reading) (text : List ℕ) (result : Result Checked CheckFault)
     → IfOk result (λ reported. HaveVerdict netlist_text reading text reported.verdict) → IfErr result (λ reported. IsCheckFault netlist_text reading text reported)
-    → (v : Verdict) → IsUnrefuted text → HaveVerdict netlist_text reading text v → IsReportedAs v result
-reported_only netlist_text reading text (Ok reported) found fails v plain have = texts_have_one_verdict netlist_text reading text reported.verdict v plain found have
-reported_only netlist_text reading text (Err reported) found fails v plain have = fault_is_memory netlist_text reading text reported v fails have
+    → (v : Verdict) → HaveVerdict netlist_text reading text v → IsReportedAs v result
+reported_only netlist_text reading text (Ok reported) found fails v have = texts_have_one_verdict netlist_text reading text reported.verdict v found have
+reported_only netlist_text reading text (Err reported) found fails v have = fault_is_memory netlist_text reading text reported v fails have
 
 pub certificate_fault : (netlist_text : List ℕ) (reading : Reading) (text : List ℕ) (netlist : Netlist) (reported : CheckFault)
     → HasCircuit netlist_text reading netlist → IsCertificateFault text reported → IsCheckFault netlist_text reading text reported
@@ -148,14 +149,17 @@ certificate_fault netlist_text reading text netlist (fault.Loop name) circuit is
 certificate_fault netlist_text reading text netlist (fault.Certificate reported) circuit is = (netlist, circuit, is.0, is.1)
 
 pub have_verdict : (netlist_text : List ℕ) (reading : Reading) (text : List ℕ) (netlist : Netlist) (c : Certificate) (v : Verdict)
-    → HasCircuit netlist_text reading netlist → Spells c text × IsWithinLimit text → IsVerdict netlist c v
+    → (output : Option ℕ) → IsOutputOf netlist_text reading output
+    → HasCircuit netlist_text reading netlist → Spells c text × IsWithinLimit text → IsVerdict (told_by reading output) netlist c v
     → HaveVerdict netlist_text reading text v
-have_verdict netlist_text reading text netlist c v circuit spells is = record {
+have_verdict netlist_text reading text netlist c v output asked circuit spells is = record {
   netlist = netlist;
   circuit = circuit;
   certificate = c;
   spells = spells.0;
   within = spells.1;
+  output = output;
+  asked = asked;
   is = is;
 }
 
@@ -164,11 +168,12 @@ pub moments_fit : (netlist : Netlist) (c : Certificate) → IsOfSize netlist c �
 moments_fit netlist c size has =
     record { count = has.count ∙ sym size.inputs; within = All-from_recursion (λ moment. moment ≤ 1000000000) c.question.moments has.moments }
 
-pub tells_worst : (netlist_text : List ℕ) (reading : Reading) (text : List ℕ) (netlist : Netlist) (c : Certificate) (v : Verdict)
-    → HasCircuit netlist_text reading netlist → IsWellFormed netlist → Spells c text × IsWithinLimit text → IsVerdict netlist c v
-    → v ≡ verdict.Accepted → TellsWorst netlist_text reading text
-tells_worst netlist_text reading text netlist c v circuit formed spells is accepted other d reads spelled =
+pub tells_truth : (netlist_text : List ℕ) (reading : Reading) (text : List ℕ) (netlist : Netlist) (c : Certificate) (v : Verdict) (told : Terms)
+    → HasCircuit netlist_text reading netlist → IsWellFormed netlist → Spells c text × IsWithinLimit text → IsVerdict told netlist c v
+    → v ≡ verdict.Accepted → TellsTruth netlist_text reading text
+tells_truth netlist_text reading text netlist c v told circuit formed spells is accepted other d reads spelled =
     let same : netlist ≡ other = reads_one netlist_text reading netlist other circuit.reads reads in
     let one : c ≡ d = (spells_once c d text text [] spells.0 spelled (sym (append-nil text))).0 in
-    let accepts : Accepts netlist c = rw accepted at is in
-    rw (same, one) at (accepted_is_worst netlist c formed circuit.acyclic (moments_fit netlist c accepts.size spells.0.has) accepts)
+    let judged : IsVerdict told netlist c verdict.Accepted = rw accepted at is in
+    let accepts : Accepts netlist c = judged.1 in
+    rw (same, one) at (accepted_is_true netlist c formed circuit.acyclic (moments_fit netlist c accepts.size spells.0.has) accepts)

@@ -1,5 +1,5 @@
 -- A certificate that is accepted has a text within the limit.
-use Rattle.std.proofs.Common.{◌≡◌, ◌*◌, ◌<◌, ◌≤◌, ◌^◌, ℕ, Bool, true, false, List, [], ◌∷◌, length, map, Some, refl, ap, subst, ◌∙◌, arith}
+use Rattle.std.proofs.Common.{◌≡◌, ◌≢◌, ◌*◌, ◌<◌, ◌≤◌, ◌^◌, ℕ, Bool, true, false, List, [], ◌∷◌, length, map, Some, refl, ap, subst, ◌∙◌, arith}
 use Rattle.std.specs.Prelude.{unwrap_or}
 use Rattle.std.specs.List.{All, AllByRecursion}
 use Rattle.std.proofs.lemmas.List.{length-map, length-set}
@@ -22,7 +22,7 @@ use Rattle.td_domain.specs.declared.cubes.Trit.{Trit}
 use Rattle.td_domain.specs.declared.cubes.Trit.TheVariants.{Zero, One, Free}
 use Rattle.td_certificate.specs.declared.tree.Node.{Node}
 use Rattle.td_certificate.specs.Cubes.{cubes_past}
-use Rattle.td_certificate.specs.Trees.{pending_after, is_refuted, has_refuted}
+use Rattle.td_certificate.specs.Trees.{pending_after, names_edges, has_edges, is_refuted, has_refuted}
 use Rattle.td_certificate.proofs.VectorCodes.{cases}
 use Rattle.td_certificate.specs.Walks.{position_of, lines_from}
 use Rattle.td_certificate.specs.Spelling.{version_in, IsNode, HasSpelling, spelling}
@@ -32,9 +32,10 @@ use Rattle.td_certificate.specs.declared.tree.Node.TheVariants as node
 use Rattle.td_certificate.specs.Accepts.{IsGood, setting_of}
 use Rattle.td_certificate.proofs.Lengths.{searched_texts_fit}
 use Rattle.td_certificate.proofs.Acceptance.{cube_fits, vector_fits}
-use Rattle.td_certificate.proofs.FirstVersion.{first_asked, has_admitted}
+use Rattle.td_certificate.proofs.FirstVersion.{has_admitted}
+use Rattle.td_certificate.proofs.Told.{no_edges, edges_parts, are_terms, have_few, one_moment}
 use Rattle.td_certificate.specs.declared.question.Version.{Version}
-use Rattle.td_certificate.specs.declared.question.Version.TheVariants.{First}
+use Rattle.td_certificate.specs.declared.question.Version.TheVariants.{First, Fourth}
 use Rattle.td_certificate.specs.Questions.{Question, inputs_of, version_of}
 use Rattle.td_domain.specs.Admits.{Admitted}
 use Rattle.td_checker.specs.Written.{AcceptedIsWritten}
@@ -95,13 +96,14 @@ short_node given admit most cube node.Empty small few plain good = tt
 short_node given admit most cube (node.Refuted refuted) small few plain good = absurd (let e : true ≡ false = plain in cc)
 
 -- a leaf without an admitted pair doesn't stand where the first version tells what is asked
-written_node : (given : Setting) (question : Question) (version : Version) (most : ℕ) (cube : List Trit) (n : Node) → (version ≡ First → version_of question ≡ First) → length question.admit.pins ≡ 2 * inputs_of question
+written_node : (given : Setting) (question : Question) (version : Version) (most : ℕ) (cube : List Trit) (n : Node) → (version ≢ Fourth → names_edges n ≡ false)
+    → (version ≡ First → version_of question ≡ First) → length question.admit.pins ≡ 2 * inputs_of question
     → length cube ≡ length question.admit.pins → IsShort n → IsGood given question.admit most (record { cube = cube; node = n }) → IsNode version n
-written_node given question version most cube (node.Split position) asked pins same short good = omega (arith, short)
-written_node given question version most cube (node.Bound domain bound) asked pins same short good = omega (arith, short)
-written_node given question version most cube (node.Point time) asked pins same short good = omega (arith, short)
-written_node given question version most cube (node.Refuted refuted) asked pins same short good = absurd short
-written_node given question version most cube node.Empty asked pins same short good = λ first. good.of_cube (has_admitted question cube (asked first) pins (same ∙ pins))
+written_node given question version most cube (node.Split position) plain asked pins same short good = omega (arith, short)
+written_node given question version most cube (node.Bound domain bound) plain asked pins same short good = (omega (arith, short), plain)
+written_node given question version most cube (node.Point time) plain asked pins same short good = omega (arith, short)
+written_node given question version most cube (node.Refuted refuted) plain asked pins same short good = absurd short
+written_node given question version most cube node.Empty plain asked pins same short good = λ first. good.of_cube (has_admitted question cube (asked first) pins (same ∙ pins))
 
 abbrev AllLong : ℕ → List (List Trit) → Type 0
 AllLong count cubes = AllByRecursion (λ cube. length cube ≡ count) cubes
@@ -119,17 +121,17 @@ IsWritten version n = IsShort n × IsNode version n
 first_plain : (n : Node) (nodes : List Node) → has_refuted (n ∷ nodes) ≡ false → (is_refuted n ≡ false) × (has_refuted nodes ≡ false)
 first_plain n nodes none = cases (is_refuted n) (λ h. absurd (let e : has_refuted (n ∷ nodes) ≡ true = rw h refl in cc)) (λ h. (h, rw h at none))
 
-written_nodes : (given : Setting) (question : Question) (version : Version) (most : ℕ) (nodes : List Node) (cubes : List (List Trit)) → (version ≡ First → version_of question ≡ First) → most < 10 ^ 15 → length question.admit.pins ≤ 8192
+written_nodes : (given : Setting) (question : Question) (version : Version) (most : ℕ) (nodes : List Node) (cubes : List (List Trit)) → (version ≢ Fourth → has_edges nodes ≡ false) → (version ≡ First → version_of question ≡ First) → most < 10 ^ 15 → length question.admit.pins ≤ 8192
     → length question.admit.pins ≡ 2 * inputs_of question → AllLong (length question.admit.pins) cubes
     → pending_after (length cubes) nodes ≡ Some 0 → has_refuted nodes ≡ false → AllByRecursion (IsGood given question.admit most) (lines_from cubes nodes)
     → AllByRecursion (IsWritten version) nodes
-written_nodes given question version most [] cubes asked small few pins long tree none good = tt
-written_nodes given question version most (n ∷ nodes) [] asked small few pins long tree none good = cc
-written_nodes given question version most (n ∷ nodes) (cube ∷ cubes) asked small few pins long tree none good =
+written_nodes given question version most [] cubes edges asked small few pins long tree none good = tt
+written_nodes given question version most (n ∷ nodes) [] edges asked small few pins long tree none good = cc
+written_nodes given question version most (n ∷ nodes) (cube ∷ cubes) edges asked small few pins long tree none good =
     let plain = first_plain n nodes none in
     let short = short_node given question.admit most cube n small (omega (arith, long.0, few)) plain.0 good.0 in (
-      (short, written_node given question version most cube n asked pins long.0 short good.0),
-      written_nodes given question version most nodes (cubes_past cube (position_of n) cubes) asked small few pins (long_past (length question.admit.pins) cube n cubes long.0 long.1)
+      (short, written_node given question version most cube n (λ other. (edges_parts n nodes (edges other)).0) asked pins long.0 short good.0),
+      written_nodes given question version most nodes (cubes_past cube (position_of n) cubes) (λ other. (edges_parts n nodes (edges other)).1) asked small few pins (long_past (length question.admit.pins) cube n cubes long.0 long.1)
           (ap (λ (k : ℕ). pending_after k nodes) (count_behind cube n cubes) ∙ tree) plain.1 good.1,
     )
 
@@ -144,7 +146,7 @@ are_nodes version (n ∷ nodes) all = (all.0.1, are_nodes version nodes all.1)
 -- ---- what is written
 
 pub accepted_is_written : AcceptedIsWritten
-accepted_is_written netlist_text reading netlist c reads acyclic fit flips accepts few none =
+accepted_is_written netlist_text reading netlist c reads acyclic fit flips accepts output asked can one few none =
     let given : Setting = setting_of netlist c in
     let long = cube_fits c.question.admit.pins c.pair.first c.pair.second accepts.admitted.pinned in
     let first : length c.pair.first ≡ length netlist.inputs = vector_fits given c.pair.first c.pair.second c.time accepts.reached in
@@ -153,7 +155,9 @@ accepted_is_written netlist_text reading netlist c reads acyclic fit flips accep
     let small : c.time < 10 ^ 15 = small_delay given acyclic fit c.pair.first c.pair.second c.time first second accepts.reached in
     let inputs : inputs_of c.question ≤ 4096 = omega (arith, size, acyclic.well_formed.few_inputs) in
     let pins : length c.question.admit.pins ≡ 2 * inputs_of c.question = omega (arith, long.0, first, size) in
-    let written = written_nodes given c.question (version_in c) c.time c.tree (c.question.admit.pins ∷ []) (first_asked c) small (omega (arith, pins, inputs)) pins (refl, tt) accepts.tree none accepts.good in
+    let low : c.high < 10 ^ 15 = omega (arith, small, one) in
+    let written = written_nodes given c.question (version_in c) c.high c.tree (c.question.admit.pins ∷ [])
+    (λ other. no_edges c.question.terms c.tree c.question.admit c.question.moments can.1 other) (λ e. e) low (omega (arith, pins, inputs)) pins (refl, tt) accepts.tree none accepts.good in
     let short : AllByRecursion IsShort c.tree = are_short (version_in c) c.tree written in
     let has : HasSpelling c = record {
       inputs = inputs;
@@ -162,13 +166,15 @@ accepted_is_written netlist_text reading netlist c reads acyclic fit flips accep
       flips = flips;
       count = fit.count ∙ size;
       moments = recursion_from_All (λ moment. moment ≤ 1000000000) c.question.moments fit.within;
+      terms = are_terms c.question.terms c.tree can.1;
       time = omega (arith, small);
+      high = one_moment (version_in c) c.time c.high one (omega (arith, small));
       first = first ∙ size;
       second = second ∙ size;
       nodes = are_nodes (version_in c) c.tree written;
       tree = accepts.tree;
     } in
-    let within : IsWithinLimit (spelling c) = searched_texts_fit c has small short few in
+    let within : IsWithinLimit (spelling c) = searched_texts_fit c has (have_few c.question.terms c.tree can.1) small low short few in
     record {
       has = has;
       within = within;
@@ -178,6 +184,8 @@ accepted_is_written netlist_text reading netlist c reads acyclic fit flips accep
         certificate = c;
         spells = record { has = has; parts = refl };
         within = within;
-        is = accepts;
+        output = output;
+        asked = asked;
+        is = (can.0, accepts);
       };
     }

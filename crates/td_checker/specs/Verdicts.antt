@@ -1,5 +1,5 @@
 -- Verdicts on certificates.
-use Rattle.std.specs.Prelude.{◌≡◌, ℕ, ◌+◌, false, List, [], ◌∷◌, codes, length, slice_get, take, Option, Some, None}
+use Rattle.std.specs.Prelude.{◌≡◌, ℕ, ◌+◌, List, [], ◌∷◌, codes, length, slice_get, take, Option, Some, None, ◌⊎◌}
 use Rattle.std.specs.List.{AllByRecursion}
 use Rattle.td_nets.specs.Netlist.{Netlist}
 use Rattle.td_circuit.specs.Settings.{Setting}
@@ -10,7 +10,8 @@ use Rattle.td_certificate.specs.declared.tree.Node.TheVariants as node
 use Rattle.td_certificate.specs.declared.certificate.Certificate.{Certificate}
 use Rattle.td_refutation.specs.declared.flaw.Flaw as step_flaw
 use Rattle.td_refutation.specs.Whole.{IsBadStep, IsAboveBound}
-use Rattle.td_certificate.specs.Trees.{IsTree, has_refuted}
+use Rattle.td_certificate.specs.Questions.{Terms}
+use Rattle.td_certificate.specs.Trees.{IsTree}
 use Rattle.td_certificate.specs.Walks.{Line}
 use Rattle.td_certificate.specs.Spelling.{head_lines}
 use Rattle.td_certificate.specs.Accepts.{lines_in, SplitsFree, IsOfOnePair, IsOfCube, IsWithin, IsGood, IsOfSize, setting_of, HasItsTime, Accepts}
@@ -28,6 +29,7 @@ verdict_number verdict.OtherCircuit = 7
 verdict_number verdict.PairNotAdmitted = 8
 verdict_number (verdict.LeafNotEmpty line) = 9
 verdict_number (verdict.BadStep line flaw) = 10
+verdict_number (verdict.OtherQuestion line) = 11
 
 abbrev pub verdict_name : Verdict → List ℕ
 verdict_name verdict.Accepted = codes "Accepted"
@@ -40,6 +42,7 @@ verdict_name verdict.OtherCircuit = codes "OtherCircuit"
 verdict_name verdict.PairNotAdmitted = codes "PairNotAdmitted"
 verdict_name (verdict.LeafNotEmpty line) = codes "LeafNotEmpty"
 verdict_name (verdict.BadStep line flaw) = codes "BadStep"
+verdict_name (verdict.OtherQuestion line) = codes "OtherQuestion"
 
 abbrev pub verdict_line : Verdict → Option ℕ
 verdict_line (verdict.LeafBound line) = Some line
@@ -48,6 +51,7 @@ verdict_line (verdict.BadPosition line) = Some line
 verdict_line (verdict.NotAPoint line) = Some line
 verdict_line (verdict.LeafNotEmpty line) = Some line
 verdict_line (verdict.BadStep line flaw) = Some line
+verdict_line (verdict.OtherQuestion line) = Some line
 verdict_line _ = None
 
 -- ---- the first bad line
@@ -119,10 +123,10 @@ reported_at AboveTime n = last_line n
 
 -- the flaw of a line of this certificate, and a good line of it, for this netlist
 abbrev pub HasFlawIn : Netlist → Certificate → Flaw → Line → Type 0
-HasFlawIn netlist c = HasFlaw (setting_of netlist c) c.question.admit c.time
+HasFlawIn netlist c = HasFlaw (setting_of netlist c) c.question.admit c.high
 
 abbrev pub IsGoodIn : Netlist → Certificate → Line → Type 0
-IsGoodIn netlist c = IsGood (setting_of netlist c) c.question.admit c.time
+IsGoodIn netlist c = IsGood (setting_of netlist c) c.question.admit c.high
 
 -- the certificate's pair is admitted
 abbrev pub HasAdmittedPair : Certificate → Type 0
@@ -142,21 +146,47 @@ pub record IsFirstBad (netlist : Netlist) (c : Certificate) (flaw : Flaw) (line 
   pub has : HasFlawIn netlist c flaw bad
   pub line_is : line ≡ 1 + length (head_lines c) + (line_total (take place (lines_in c)) + reported_at flaw bad.node)
 
+-- ---- the question
+
+-- the text tells no terms, or those that the checker was told
+abbrev pub AreTold : Terms → Option Terms → Type 0
+AreTold told None = Unit {0}
+AreTold told (Some terms) = (terms.default ≡ told.default) × (terms.outputs ≡ told.outputs)
+
+-- the line of the text that tells others: first the one of the delays, then the one of the outputs
+abbrev pub AreOther : Terms → Option Terms → ℕ → Type 0
+AreOther told None line = ⊥
+AreOther told (Some terms) line =
+    ((line ≡ 3) × (¬ (terms.default ≡ told.default))) ⊎ ((line ≡ 4) × (terms.default ≡ told.default) × (¬ (terms.outputs ≡ told.outputs)))
+
+-- whether the text tells others, and on which line
+abbrev pub AreCompared : Terms → Option Terms → Option ℕ → Type 0
+AreCompared told terms None = AreTold told terms
+AreCompared told terms (Some line) = AreOther told terms line
+
 -- ---- the verdict
 
-abbrev pub IsVerdict : Netlist → Certificate → Verdict → Type 0
-IsVerdict netlist c verdict.Accepted = Accepts netlist c
-IsVerdict netlist c verdict.OtherCircuit = ¬ IsOfSize netlist c
-IsVerdict netlist c verdict.PairNotAdmitted = IsOfSize netlist c × (¬ HasAdmittedPair c)
-IsVerdict netlist c verdict.PairTime = IsOfSize netlist c × HasAdmittedPair c × (¬ HasItsTime netlist c)
-IsVerdict netlist c (verdict.BadPosition line) = IsFirstBad netlist c Misplaced line
-IsVerdict netlist c (verdict.NotAPoint line) = IsFirstBad netlist c NotOnePair line
-IsVerdict netlist c (verdict.LeafBound line) = IsFirstBad netlist c WrongNumber line
-IsVerdict netlist c (verdict.BadStep line why) = (place : ℕ) × IsFirstBad netlist c (BadStep place why) line
-IsVerdict netlist c (verdict.LeafNotEmpty line) = IsFirstBad netlist c NotEmpty line
-IsVerdict netlist c (verdict.LeafAboveTime line) = IsFirstBad netlist c AboveTime line
+-- where the text tells no other terms
+abbrev pub IsVerdictOn : Netlist → Certificate → Verdict → Type 0
+IsVerdictOn netlist c verdict.Accepted = Accepts netlist c
+IsVerdictOn netlist c verdict.OtherCircuit = ¬ IsOfSize netlist c
+IsVerdictOn netlist c (verdict.OtherQuestion line) = ⊥
+IsVerdictOn netlist c verdict.PairNotAdmitted = IsOfSize netlist c × (¬ HasAdmittedPair c)
+IsVerdictOn netlist c verdict.PairTime = IsOfSize netlist c × HasAdmittedPair c × (¬ HasItsTime netlist c)
+IsVerdictOn netlist c (verdict.BadPosition line) = IsFirstBad netlist c Misplaced line
+IsVerdictOn netlist c (verdict.NotAPoint line) = IsFirstBad netlist c NotOnePair line
+IsVerdictOn netlist c (verdict.LeafBound line) = IsFirstBad netlist c WrongNumber line
+IsVerdictOn netlist c (verdict.BadStep line why) = (place : ℕ) × IsFirstBad netlist c (BadStep place why) line
+IsVerdictOn netlist c (verdict.LeafNotEmpty line) = IsFirstBad netlist c NotEmpty line
+IsVerdictOn netlist c (verdict.LeafAboveTime line) = IsFirstBad netlist c AboveTime line
 
--- a certificate has at most one verdict, where no leaf of it is refuted by steps
+-- where the checker was told these terms
+abbrev pub IsVerdict : Terms → Netlist → Certificate → Verdict → Type 0
+IsVerdict told netlist c verdict.OtherCircuit = ¬ IsOfSize netlist c
+IsVerdict told netlist c (verdict.OtherQuestion line) = IsOfSize netlist c × AreOther told c.question.terms line
+IsVerdict told netlist c reported = AreTold told c.question.terms × IsVerdictOn netlist c reported
+
+-- a certificate has at most one verdict
 abbrev pub OneVerdict : Type 0
-OneVerdict = (netlist : Netlist) (c : Certificate) (this that : Verdict) → has_refuted c.tree ≡ false → IsVerdict netlist c this → IsVerdict netlist c that
-    → this ≡ that
+OneVerdict = (told : Terms) (netlist : Netlist) (c : Certificate) (this that : Verdict) → IsVerdict told netlist c this
+    → IsVerdict told netlist c that → this ≡ that

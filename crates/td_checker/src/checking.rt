@@ -1,6 +1,6 @@
 //! The verdict on a certificate.
 
-ghost use Rattle.std.specs.Prelude.{◌≡◌, ◌≤◌, ◌<◌, ◌+◌, ◌*◌, ◌↔◌, ℕ, List, length, IfOk, IfErr, IfSome, IsTrue};
+ghost use Rattle.std.specs.Prelude.{◌≡◌, ◌≤◌, ◌<◌, ◌+◌, ◌*◌, ◌↔◌, ◌∷◌, [], ℕ, List, length, option_map, Some, IfOk, IfErr, IfSome, IsTrue};
 ghost use Rattle.td_nets.specs.WellFormed.{IsWellFormed};
 ghost use Rattle.td_circuit.specs.Numbering.{setting};
 ghost use Rattle.td_circuit.specs.Run.{IsDelayOfBits};
@@ -9,20 +9,21 @@ ghost use Rattle.td_certificate.specs.Faults.{IsWithinLimit};
 ghost use Rattle.td_certificate.specs.Spelling.{head_lines, HasSpelling, Spells};
 ghost use Rattle.td_event_sim.specs.Scratch.{IsFor};
 ghost use Rattle.td_checker.specs.Judging.{AreJudged, reported_as};
-ghost use Rattle.td_checker.specs.Verdicts.{IsVerdict, line_total};
+ghost use Rattle.td_checker.specs.Verdicts.{AreCompared, IsVerdictOn, IsVerdict, line_total};
 ghost use Rattle.td_checker.specs.declared.verdict.Verdict.{Verdict as Reported};
-ghost use Rattle.td_checker.specs.Checks.{HaveVerdict, IsCheckFault, IsCertificateFault, IsReportedAs, TellsWorst, IsUnrefuted};
+ghost use Rattle.td_checker.specs.Checks.{HaveVerdict, IsCheckFault, IsCertificateFault, IsReportedAs, TellsTruth, told_terms};
 
 use crate::admitting::is_admitted;
 use crate::judging::{Flaw, Judged, judge};
 use crate::verdict::{CheckFault, Checked, Verdict};
 use crate::walking::Walk;
 use std::alloc::{AllocError, Global};
-use td_certificate::{CertFaultKind, Certificate, Version};
+use td_certificate::{CertFaultKind, Certificate, Terms, Version};
 use td_circuit::Circuit;
 use td_event_sim::{Scratch, delay_of};
+use td_gates::Delay;
 use td_reading::Reading;
-use td_source::circuit_of;
+use td_source::{Source, source_of};
 
 /// The first bad line of a tree: how many of its lines stand before it, and what is wrong with it.
 #[derive(Clone, Copy, Drop)]
@@ -43,7 +44,7 @@ fn first_bad(
     requires pins { length certificate.now.question.admit.pins ≡ 2 * length circuit.now.netlist.inputs }
     requires held { length certificate.now.question.admit.held ≡ length circuit.now.netlist.inputs }
     requires few { line_total (lines_in certificate.now) ≤ 268435456 }
-    ensures judged { IfOk result (λ found. AreJudged (setting circuit.now) certificate.now.question.admit certificate.now.time (lines_in certificate.now) found) }
+    ensures judged { IfOk result (λ found. AreJudged (setting circuit.now) certificate.now.question.admit certificate.now.high (lines_in certificate.now) found) }
     ensures before { IfOk result (λ found. IfSome found (λ bad. bad.before < 268435456)) }
 {
     let admit = certificate.question.admit();
@@ -55,7 +56,7 @@ fn first_bad(
             scratch,
             circuit,
             admit,
-            certificate.time,
+            certificate.high,
             &walk.cube,
             node,
         )? {
@@ -77,12 +78,13 @@ fn first_bad(
 /// The line of the text on which the tree begins.
 fn first_line(certificate: &Certificate) -> u32
     ensures line { result ≡ 1 + length (head_lines certificate.now) }
-    ensures small { result ≤ 11 }
+    ensures small { result ≤ 15 }
 {
     match certificate.version() {
         Version::First => 6,
         Version::Second => 10,
-        Version::Third | Version::Fourth | Version::Fifth => 11,
+        Version::Third => 11,
+        Version::Fourth => 15,
     }
 }
 
@@ -134,7 +136,7 @@ fn verdict_of_lines(
     requires spelled { HasSpelling certificate.now }
     requires moments { circuit.now.moments ≡ certificate.now.question.moments }
     requires few { line_total (lines_in certificate.now) ≤ 268435456 }
-    ensures { IfOk result (λ verdict. IsVerdict circuit.now.netlist certificate.now verdict) }
+    ensures { IfOk result (λ verdict. IsVerdictOn circuit.now.netlist certificate.now verdict) }
 {
     if !is_admitted(alloc, certificate.question.admit(), &certificate.pair)? {
         return Ok(Verdict::PairNotAdmitted);
@@ -149,18 +151,51 @@ fn verdict_of_lines(
     }
 }
 
-/// The verdict on a certificate that has a text within the limit.
+/// Whether terms name the output with this number alone, or all where none is asked about.
+fn are_asked(terms: &Terms, output: Option<usize>) -> bool
+    ensures { IsTrue result ↔ (terms.now.outputs ≡ option_map (λ number. number ∷ []) output) }
+{
+    match (&terms.outputs, output) {
+        (None, None) => true,
+        (Some(numbers), Some(output)) => numbers.len() == 1 && numbers[0] == output as u64,
+        _ => false,
+    }
+}
+
+/// The line of a text that tells other terms than these delays and this output.
+fn other_line(terms: &Terms, default: Delay, output: Option<usize>) -> Option<u32>
+    ensures { AreCompared (told_terms default output) (Some terms.now) result }
+{
+    if terms.rise != default.rise || terms.fall != default.fall {
+        return Some(3);
+    }
+    if are_asked(terms, output) {
+        None
+    } else {
+        Some(4)
+    }
+}
+
+/// The verdict on a certificate that has a text within the limit, where the checker was told these
+/// delays of gates that state none.
 fn verdict_on(
     alloc: Global,
-    circuit: Circuit,
+    source: Source,
+    default: Delay,
     certificate: &Certificate,
 ) -> Result<Verdict, AllocError>
     requires spelled { HasSpelling certificate.now }
     requires few { line_total (lines_in certificate.now) ≤ 268435456 }
-    ensures { IfOk result (λ verdict. IsVerdict circuit.netlist certificate.now verdict) }
+    ensures { IfOk result (λ verdict. IsVerdict (told_terms default source.output) source.circuit.netlist certificate.now verdict) }
 {
+    let Source { circuit, output } = source;
     if !is_of_size(&circuit, certificate) {
         return Ok(Verdict::OtherCircuit);
+    }
+    if let Some(terms) = certificate.question.terms() {
+        if let Some(line) = other_line(terms, default, output) {
+            return Ok(Verdict::OtherQuestion(line));
+        }
     }
     let mut circuit = circuit;
     circuit.set_moments(Vec::from_slice(alloc, certificate.question.moments())?);
@@ -200,11 +235,11 @@ fn verdict_of_texts<'a>(
     ensures reported { IfOk result (λ checked. HaveVerdict netlist.now reading.now certificate.now checked.verdict) }
     ensures spelled { IfOk result (λ checked. Spells checked.certificate certificate.now) }
     ensures fault { IfErr result (λ fault. IsCheckFault netlist.now reading.now certificate.now fault) }
-    ensures worst { IfOk result (λ checked. checked.verdict ≡ Verdict.Accepted → TellsWorst netlist.now reading.now certificate.now) }
+    ensures truth { IfOk result (λ checked. checked.verdict ≡ Verdict.Accepted → TellsTruth netlist.now reading.now certificate.now) }
 {
-    let circuit = circuit_of(alloc, netlist, reading)?;
+    let source = source_of(alloc, netlist, reading)?;
     let spelled = spelled_by(alloc, certificate)?;
-    let verdict = verdict_on(alloc, circuit, &spelled)?;
+    let verdict = verdict_on(alloc, source, reading.default, &spelled)?;
     Ok(Checked {
         verdict,
         certificate: spelled,
@@ -230,11 +265,11 @@ pub fn check<'a>(
     ensures spelled { IfOk result (λ checked. Spells checked.certificate certificate.now) }
     ensures fault { IfErr result (λ fault. IsCheckFault netlist.now reading.now certificate.now fault) }
 
-    // Unless memory runs out, texts that have a verdict get it, where no leaf is refuted by steps.
-    ensures only { (verdict : Reported) → IsUnrefuted certificate.now → HaveVerdict netlist.now reading.now certificate.now verdict → IsReportedAs verdict result }
+    // Unless memory runs out, texts that have a verdict get it.
+    ensures only { (verdict : Reported) → HaveVerdict netlist.now reading.now certificate.now verdict → IsReportedAs verdict result }
 
-    // An accepted time is the worst delay of the admitted pairs.
-    ensures worst { IfOk result (λ checked. checked.verdict ≡ Verdict.Accepted → TellsWorst netlist.now reading.now certificate.now) }
+    // What an accepted certificate claims is true.
+    ensures truth { IfOk result (λ checked. checked.verdict ≡ Verdict.Accepted → TellsTruth netlist.now reading.now certificate.now) }
 {
     verdict_of_texts(alloc, netlist, reading, certificate)
 }
@@ -255,11 +290,11 @@ pub fn check_owned<'a>(
     ensures reported { IfOk result (λ checked. HaveVerdict netlist.now reading.now certificate.items checked.verdict) }
     ensures spelled { IfOk result (λ checked. Spells checked.certificate certificate.items) }
     ensures fault { IfErr result (λ fault. IsCheckFault netlist.now reading.now certificate.items fault) }
-    ensures worst { IfOk result (λ checked. checked.verdict ≡ Verdict.Accepted → TellsWorst netlist.now reading.now certificate.items) }
+    ensures truth { IfOk result (λ checked. checked.verdict ≡ Verdict.Accepted → TellsTruth netlist.now reading.now certificate.items) }
 {
-    let asked = circuit_of(alloc, netlist, reading)?;
+    let asked = source_of(alloc, netlist, reading)?;
     let spelled = spelled_by_owned(alloc, certificate)?;
-    let verdict = verdict_on(alloc, asked, &spelled)?;
+    let verdict = verdict_on(alloc, asked, reading.default, &spelled)?;
     Ok(Checked {
         verdict,
         certificate: spelled,

@@ -4,13 +4,12 @@ ghost use Rattle.td_checker.specs.Checks.{TextsHaveOneVerdict};
 ghost use Rattle.td_checker.specs.Verdicts.{OneVerdict};
 ghost use Rattle.td_checker.specs.Written.{AcceptedIsWritten};
 
-/// A netlist and a certificate without a leaf by refutation have at most one verdict.
+/// A netlist and a certificate have at most one verdict.
 pub fn one_verdict()
     ensures { OneVerdict }
 {}
 
-/// A netlist's text and the text of a certificate without a leaf by refutation have at most one
-/// verdict.
+/// A netlist's text and a certificate's text have at most one verdict.
 pub fn texts_have_one_verdict()
     ensures { TextsHaveOneVerdict }
 {}

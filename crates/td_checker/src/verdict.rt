@@ -13,20 +13,22 @@ use td_refutation::Flaw as StepFlaw;
 use td_source::SourceFault;
 use thiserror::Error;
 
-/// The verdict on a certificate: the first that applies of another circuit, a pair that isn't
-/// admitted, a pair without the time, and, line by line in the tree, a bad position, a leaf of one
-/// pair with something free, a step that isn't good, a wrong number or a leaf `none` whose cube
-/// holds an admitted pair, and a number above the time. Lines are those of the text, from 1.
+/// The verdict on a certificate: the first that applies of another circuit, another question, a pair
+/// that isn't admitted, a pair without the time, and, line by line in the tree, a bad position, a
+/// leaf of one pair with something free, a step that isn't good, a wrong number or a leaf `none`
+/// whose cube holds an admitted pair, and a number that is too high. Lines are those of the text,
+/// from 1.
 #[derive(Clone, Copy, Debug, PartialEq, Eq, Drop)]
 pub enum Verdict {
-    /// The certificate's time is the circuit's worst delay over the admitted pairs.
+    /// What the certificate claims is true: the pair has its time, and no admitted pair changes an
+    /// output after its other moment.
     Accepted,
     /// The pair's delay isn't the time.
     PairTime,
     /// A bound less than the domain's or of a domain that gives none, a time that isn't the pair's
     /// delay, or a bound that steps don't show, or of sets with too many variables.
     LeafBound(u32),
-    /// The number of a leaf is above the time.
+    /// The number of a leaf is above the moment after which no admitted pair changes an output.
     LeafAboveTime(u32),
     /// A split at a position that doesn't exist or isn't free.
     BadPosition(u32),
@@ -40,10 +42,12 @@ pub enum Verdict {
     LeafNotEmpty(u32),
     /// A step of a leaf that is refuted isn't good, for this reason.
     BadStep(u32, StepFlaw),
+    /// The text tells other delays of gates that state none, or other outputs.
+    OtherQuestion(u32),
 }
 
 impl Verdict {
-    /// The number by which programs tell this verdict, from 1 for `Accepted` to 10.
+    /// The number by which programs tell this verdict, from 1 for `Accepted` to 11.
     pub fn number(self) -> u8
         ensures { result ≡ verdict_number self }
     {
@@ -58,6 +62,7 @@ impl Verdict {
             Verdict::PairNotAdmitted => 8,
             Verdict::LeafNotEmpty(_) => 9,
             Verdict::BadStep(_, _) => 10,
+            Verdict::OtherQuestion(_) => 11,
         }
     }
 
@@ -76,6 +81,7 @@ impl Verdict {
             Verdict::PairNotAdmitted => "PairNotAdmitted",
             Verdict::LeafNotEmpty(_) => "LeafNotEmpty",
             Verdict::BadStep(_, _) => "BadStep",
+            Verdict::OtherQuestion(_) => "OtherQuestion",
         }
     }
 
@@ -89,7 +95,8 @@ impl Verdict {
             | Verdict::BadPosition(line)
             | Verdict::NotAPoint(line)
             | Verdict::LeafNotEmpty(line)
-            | Verdict::BadStep(line, _) => Some(line),
+            | Verdict::BadStep(line, _)
+            | Verdict::OtherQuestion(line) => Some(line),
             Verdict::Accepted
             | Verdict::PairTime
             | Verdict::OtherCircuit

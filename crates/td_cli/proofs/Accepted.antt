@@ -17,7 +17,7 @@ use Rattle.td_command.specs.declared.command.Request.{Request}
 use Rattle.td_command.specs.declared.command.Request.TheVariants as request
 use Rattle.td_command.specs.CommandLine.{kinds_of, Asks}
 use Rattle.td_cli.specs.Requests.{RequestEnds, ProgramEnds}
-use Rattle.td_cli.specs.Sentences.{IsCheckedWorst, SaysVerdict, IsTrueCheck, AskForCheck}
+use Rattle.td_cli.specs.Sentences.{IsCheckedTrue, SaysVerdict, IsTrueCheck, AskForCheck}
 use Rattle.td_cli.proofs.Lines.{IsFine, both, by_look, number}
 use Rattle.td_cli.proofs.Searches.{entered_name, enters, is_check}
 use Rattle.td_cli.proofs.Sentences.{came_out, nothing_more, none_among, Said, said_so}
@@ -44,6 +44,7 @@ of_name verdict.OtherCircuit = by_look (codes "OtherCircuit") refl
 of_name verdict.PairNotAdmitted = by_look (codes "PairNotAdmitted") refl
 of_name (verdict.LeafNotEmpty line) = by_look (codes "LeafNotEmpty") refl
 of_name (verdict.BadStep line flaw) = by_look (codes "BadStep") refl
+of_name (verdict.OtherQuestion line) = by_look (codes "OtherQuestion") refl
 
 of_place : (line : Option ℕ) → IsFine (place_text line)
 of_place None = record { is = tt }
@@ -58,7 +59,7 @@ module _ (disk : Disk) (words : List Text) where
   refuses : (it : Verdict) (report : List ℕ) → report ≡ refused_text it → SaysVerdict disk.holds words report
   refuses it report same = inr (reason_of it, (reason_fine it).is, same ∙ refused_is it)
 
-  tells : (it : Verdict) (certificate : Certificate) → (it ≡ verdict.Accepted → IsCheckedWorst disk.holds words certificate)
+  tells : (it : Verdict) (certificate : Certificate) → (it ≡ verdict.Accepted → IsCheckedTrue disk.holds words certificate)
       → (report : List ℕ) → report ≡ verdict_text certificate it → SaysVerdict disk.holds words report
   tells verdict.Accepted certificate checked report same = inl (certificate, checked refl, same)
   tells verdict.PairTime certificate checked report same = refuses verdict.PairTime report same
@@ -70,11 +71,12 @@ module _ (disk : Disk) (words : List Text) where
   tells verdict.PairNotAdmitted certificate checked report same = refuses verdict.PairNotAdmitted report same
   tells (verdict.LeafNotEmpty line) certificate checked report same = refuses (verdict.LeafNotEmpty line) report same
   tells (verdict.BadStep line flaw) certificate checked report same = refuses (verdict.BadStep line flaw) report same
+  tells (verdict.OtherQuestion line) certificate checked report same = refuses (verdict.OtherQuestion line) report same
 
   -- the certificate of an accepted text
   checked : (asked : CheckRequest) → Asks words (request.Check asked) → (text spelled : List ℕ) → disk.holds asked.file.now text
       → disk.holds asked.certificate.now spelled → (ending : Status) (report : List ℕ) → (it : IsCheckReport text asked.reading spelled ending report)
-      → it.verdict ≡ verdict.Accepted → IsCheckedWorst disk.holds words it.certificate
+      → it.verdict ≡ verdict.Accepted → IsCheckedTrue disk.holds words it.certificate
   checked asked asks text spelled held spelled_held ending report it accepted =
       let check = asks.asks.3.1 in
       record {
@@ -93,7 +95,7 @@ module _ (disk : Disk) (words : List Text) where
         spelled = spelled;
         spelled_read = spelled_held;
         spells = it.spells;
-        worst = it.worst accepted it.has.netlist it.certificate it.has.circuit.reads it.spells;
+        truth = it.truth accepted it.has.netlist it.certificate it.has.circuit.reads it.spells;
       }
 
   said_by_check : (asked : CheckRequest) → Asks words (request.Check asked) → (steps : List FileStep) (status : Status) (old new : Streams)

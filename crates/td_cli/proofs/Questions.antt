@@ -30,7 +30,8 @@ use Rattle.td_report.specs.declared.vector.VectorWord.{VectorWord}
 use Rattle.td_report.specs.declared.vector.VectorWord.TheVariants.{At}
 use Rattle.td_report.specs.Vectors.{words_of, VectorWords, IsFirstBad, AreMomentsOf, GivesMoments}
 use Rattle.td_cli.specs.Admitting.{most_flips, WordsAdmit, pair_words}
-use Rattle.td_cli.specs.WorstReports.{strategy_of, IsAsked, certificate_in, pair_in}
+use Rattle.td_cli.specs.WorstReports.{strategy_of, IsAsked, terms_in, certificate_in, CanBeTold, pair_in}
+use Rattle.td_cli.specs.declared.question.Read.{Read}
 use Rattle.td_cli.specs.Outcomes.{question_words, HasNoAnswer, HasNoSearch, unanswered}
 use Rattle.td_command.specs.declared.command.WorstRequest.{WorstRequest}
 use Rattle.td_report.specs.Outcomes.{IsCircuitOf, HasBadWord}
@@ -96,9 +97,10 @@ no_search text request is_timed asked (worst.Search search.NoPair) timed is fits
 no_search text request is_timed asked worst.NoTimer timed is fits = sym timed ∙ fits
 
 -- the certificate of an answer has a text
-pub certificate_spelled : (asked : Problem) (found : Answer) → CanBeWritten asked found → IfSome (certificate_in asked found) HasSpelling
-certificate_spelled asked (answer.Exact time pair tree) written = written.0
-certificate_spelled asked (answer.Between low high pair nodes why) written = tt
+pub certificate_spelled : (read : Read) (asked : Problem) (found : Answer) → CanBeWritten asked found → CanBeTold read asked.strategy found
+    → IfSome (certificate_in read asked found) HasSpelling
+certificate_spelled read asked (answer.Exact time pair tree) written can = (written (terms_in asked.strategy read tree) can).0
+certificate_spelled read asked (answer.Between low high pair nodes why) written can = tt
 
 -- ---- the pair of an answer
 

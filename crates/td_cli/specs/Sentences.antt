@@ -11,7 +11,7 @@ use Rattle.td_domain.specs.Worst.{IsUpperBound, IsWorst}
 use Rattle.td_nets.specs.Netlist.{Netlist}
 use Rattle.td_source.specs.Reads.{HasCircuit}
 use Rattle.td_certificate.specs.declared.certificate.Certificate.{Certificate}
-use Rattle.td_certificate.specs.Accepts.{setting_of}
+use Rattle.td_certificate.specs.Accepts.{setting_of, IsClaim}
 use Rattle.td_certificate.specs.Spelling.{Spells}
 use Rattle.td_command.specs.CommandLine.{program, kinds_of, HasCount, HasReading}
 use Rattle.td_vcd.specs.Says.{IsOnOneLine}
@@ -101,9 +101,8 @@ AskForWorst words = (given : List Row) × Enters (codes "worst") words given
 -- ---- the sentence of `check`
 
 -- The words name a netlist's file, whose text means a netlist without a loop, and a certificate's
--- file, whose text spells this certificate. Its time is the worst delay of the pairs that it admits,
--- in that netlist and with its moments.
-pub record IsCheckedWorst (holds : List ℕ → List ℕ → Type 0) (words : List Text) (certificate : Certificate) : Type 0 where
+-- file, whose text spells this certificate. What it claims is true of that netlist, with its moments.
+pub record IsCheckedTrue (holds : List ℕ → List ℕ → Type 0) (words : List Text) (certificate : Certificate) : Type 0 where
   pub given : List Row
   pub enters : Enters (codes "check") words given
   pub file : Text
@@ -119,13 +118,13 @@ pub record IsCheckedWorst (holds : List ℕ → List ℕ → Type 0) (words : Li
   pub spelled : List ℕ
   pub spelled_read : holds certificate_file spelled
   pub spells : Spells certificate spelled
-  pub worst : IsWorst (setting_of netlist certificate) certificate.question.admit certificate.time
+  pub truth : IsClaim (setting_of netlist certificate) certificate
 
--- A report of `check` that is true: it accepts a certificate whose time is a worst delay, or it is
+-- A report of `check` that is true: it accepts a certificate whose claim is true, or it is
 -- one line that refuses one.
 abbrev pub SaysVerdict : (List ℕ → List ℕ → Type 0) → List Text → List ℕ → Type 0
 SaysVerdict holds words report =
-    ((certificate : Certificate) × IsCheckedWorst holds words certificate × (report ≡ accepted_text certificate))
+    ((certificate : Certificate) × IsCheckedTrue holds words certificate × (report ≡ accepted_text certificate))
     ⊎ ((reason : List ℕ) × IsOnOneLine reason × (report ≡ codes "refused " ++ reason ++ newline))
 
 -- What came out is nothing, or a beginning of a report that is true of what the words ask.

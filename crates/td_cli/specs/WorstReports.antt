@@ -1,16 +1,25 @@
 -- What `worst` prints.
-use Rattle.std.specs.Prelude.{◌≡◌, ℕ, List, ◌++◌, codes, decimal, length, Bool, Option, Some, None, is_some, min}
+use Rattle.std.specs.Prelude.{◌≡◌, ℕ, List, ◌++◌, codes, decimal, length, Bool, true, ◌||◌, if◌then◌else◌, Option, Some, None, is_some, min}
 use Rattle.td_reading.specs.declared.reading.Reading.{Reading}
 use Rattle.td_nets.specs.Netlist.{Netlist}
 use Rattle.td_domain.specs.Pairs.{Pair}
+use Rattle.td_source.specs.Reads.{IsOutputOf}
 use Rattle.td_certificate.specs.declared.certificate.Certificate.{Certificate}
+use Rattle.td_certificate.specs.declared.tree.Node.{Node}
+use Rattle.td_certificate.specs.Questions.{Terms}
+use Rattle.td_certificate.specs.Trees.{has_edges, has_refuted}
+use Rattle.td_certificate.specs.Lengths.{CanTell}
+use Rattle.td_checker.specs.Checks.{told_terms}
+use Rattle.td_search.specs.declared.strategy.Strategy.{Strategy}
+use Rattle.td_search.specs.declared.strategy.Strategy.TheVariants as strategy
+use Rattle.td_cli.specs.declared.question.Read.{Read}
 use Rattle.td_certificate.specs.Text.{bits}
 use Rattle.td_search.specs.declared.answers.Cause.{Cause}
 use Rattle.td_search.specs.declared.answers.Cause.TheVariants as cause
 use Rattle.td_search.specs.declared.answers.Answer.{Answer}
 use Rattle.td_search.specs.declared.answers.Answer.TheVariants as answer
 use Rattle.td_search.specs.Problems.{Problem}
-use Rattle.td_search.specs.Answers.{certificate_of, TimeNeedsStop}
+use Rattle.td_search.specs.Answers.{certificate_by, TimeNeedsStop}
 use Rattle.td_command.specs.declared.command.StrategyWord.{StrategyWord}
 use Rattle.td_command.specs.declared.command.StrategyWord.TheVariants as word
 use Rattle.td_command.specs.declared.command.WorstRequest.{WorstRequest}
@@ -60,10 +69,29 @@ answer_lines (answer.Between low high pair nodes why) = between_line low high ++
 abbrev pub worst_text : Netlist → Answer → List ℕ
 worst_text netlist found = unit_lines netlist ++ answer_lines found
 
+-- the netlist was read with these delays of gates that state none, and the output that is asked
+-- about has this number
+abbrev pub IsRead : List ℕ → Reading → Read → Type 0
+IsRead text reading read = (read.default ≡ reading.default) × IsOutputOf text reading read.output
+
+-- whether a certificate tells how the netlist is read: not where a tree by `Least` without a leaf
+-- that is bounded by edges or refuted is about all outputs
+abbrev pub tells_terms : Strategy → Option ℕ → List Node → Bool
+tells_terms strategy.Lead output tree = true
+tells_terms strategy.Least output tree = is_some output || (has_edges tree || has_refuted tree)
+
+abbrev pub terms_in : Strategy → Read → List Node → Option Terms
+terms_in by read tree = if tells_terms by read.output tree then Some (told_terms read.default read.output) else None
+
 -- the certificate of an exact answer
-abbrev pub certificate_in : Problem → Answer → Option Certificate
-certificate_in asked (answer.Exact time pair tree) = Some (certificate_of asked time pair tree)
-certificate_in asked (answer.Between low high pair nodes why) = None
+abbrev pub certificate_in : Read → Problem → Answer → Option Certificate
+certificate_in read asked (answer.Exact time pair tree) = Some (certificate_by (terms_in asked.strategy read tree) asked time pair tree)
+certificate_in read asked (answer.Between low high pair nodes why) = None
+
+-- the certificate's terms can tell its tree
+abbrev pub CanBeTold : Read → Strategy → Answer → Type 0
+CanBeTold read by (answer.Exact time pair tree) = CanTell tree (terms_in by read tree)
+CanBeTold read by (answer.Between low high pair nodes why) = Unit {0}
 
 -- the strategy that a word names
 abbrev pub strategy_of : StrategyWord → Method
@@ -105,5 +133,7 @@ pub record IsWorstReport (text : List ℕ) (request : WorstRequest) (report : Li
   pub chain : List ℕ
   pub tells : TellsPair (beside_of request) asked.setting (pair_in found) chain
   pub is : report ≡ worst_text asked.setting.netlist found ++ chain
-  pub certified : certificate ≡ certificate_in asked found
+  pub read : Read
+  pub is_read : IsRead text request.reading read
+  pub certified : certificate ≡ certificate_in read asked found
   pub dumped : IsDumpOf asked.setting (pair_in found) (words_of request.vcd) dumps

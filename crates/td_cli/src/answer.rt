@@ -1,6 +1,6 @@
 //! What there is to show and to keep of the answer of a search.
 
-ghost use Rattle.std.specs.Prelude.{◌≡◌, ◌≤◌, ◌++◌, length, IfOk, IfSome, OnOk};
+ghost use Rattle.std.specs.Prelude.{◌≡◌, ◌≤◌, ◌++◌, ◌∷◌, [], length, option_map, None as Nothing, IfOk, IfSome, OnOk};
 ghost use Rattle.td_search.specs.Problems.{problem_by};
 ghost use Rattle.td_certificate.specs.Text.{bits};
 ghost use Rattle.td_circuit.specs.Numbering.{setting};
@@ -9,14 +9,17 @@ ghost use Rattle.td_report.specs.Chains.{AddsRun};
 ghost use Rattle.td_report.specs.PairReports.{IsDumpOf};
 ghost use Rattle.td_report.specs.Vectors.{words_of};
 ghost use Rattle.td_cli.specs.WorstReports.{exact_line, between_line, cause_line, pair_lines};
-ghost use Rattle.td_cli.specs.WorstReports.{answer_lines, worst_text, certificate_in, pair_in};
+ghost use Rattle.td_cli.specs.WorstReports.{answer_lines, worst_text, tells_terms, terms_in, certificate_in, CanBeTold, pair_in};
+ghost use Rattle.td_certificate.specs.Lengths.{CanTell};
+ghost use Rattle.td_certificate.specs.Spelling.{AreOutputs};
 ghost use Rattle.td_cli.specs.Outcomes.{unanswered};
 
-use crate::question::Asked;
+use crate::question::{Asked, Read};
 use std::alloc::{AllocError, Global};
-use td_certificate::{Certificate, Question, Tree};
+use td_certificate::{Certificate, Question, Terms, Tree};
 use td_circuit::Circuit;
-use td_domain::{Admit, Pair};
+use td_domain::Pair;
+use td_gates::Level;
 use td_report::beside::Beside;
 use td_report::chaining::with_run;
 use td_report::dumping::{Dump, pair_dump};
@@ -48,15 +51,21 @@ pub fn found_of<'v>(
     requires first_fits { length (pair_in answer).first ≡ length asked.circuit.netlist.inputs }
     requires second_fits { length (pair_in answer).second ≡ length asked.circuit.netlist.inputs }
     ensures report { IfOk result (λ found. AddsRun beside (setting asked.circuit) (pair_in answer) (worst_text asked.circuit.netlist answer) found.report) }
-    ensures certified { IfOk result (λ found. found.certificate ≡ certificate_in (problem_by strategy asked.circuit asked.admit) answer) }
+    ensures certified { IfOk result (λ found. found.certificate ≡ certificate_in asked.read (problem_by strategy asked.circuit asked.admit) answer) }
+    ensures told { IfOk result (λ found. CanBeTold asked.read strategy answer) }
     ensures dumped { IfOk result (λ found. IsDumpOf (setting asked.circuit) (pair_in answer) (words_of vcd.entry) (dump_files found.dump)) }
     ensures has { IfOk result (λ found. IfSome found.dump HasRun) }
 {
-    let Asked { circuit, admit } = asked;
+    let Asked {
+        circuit,
+        admit,
+        read,
+    } = asked;
     let report = explained(alloc, &circuit, &answer, beside)?;
     let pair = pair_in(&answer).copy(alloc)?;
     let moments = Vec::from_slice(alloc, circuit.moments())?;
-    let certificate = certificate(&circuit, admit, moments, strategy, answer);
+    let question = Question::new(admit, moments);
+    let certificate = certificate(alloc, &circuit, question, read, strategy, answer)?;
     let dump = pair_dump(alloc, vcd, circuit, &pair)?;
     Ok(Found {
         report,
@@ -101,25 +110,90 @@ pub fn unanswered<'a>(fault: WorstFault) -> Refusal<'a>
     }
 }
 
+/// Whether a certificate tells how the netlist is read.
+fn tells_terms(strategy: Strategy, output: Option<usize>, tree: &Tree) -> bool
+    ensures { result ≡ tells_terms strategy output tree.now }
+{
+    match strategy {
+        Strategy::Lead => true,
+        Strategy::Least => output.is_some() || tree.has_edges() || tree.has_refuted(),
+    }
+}
+
+/// The numbers of the outputs that are asked about: none where all are. The error is out of memory.
+fn outputs_of(alloc: Global, output: Option<usize>) -> Result<Option<Vec<u64>>, AllocError>
+    ensures is { IfOk result (λ outputs. option_map (λ numbers. numbers.items) outputs ≡ option_map (λ number. number ∷ []) output) }
+    ensures few { IfOk result (λ outputs. AreOutputs (option_map (λ numbers. numbers.items) outputs)) }
+{
+    let Some(output) = output else {
+        return Ok(None);
+    };
+    // No netlist has so many outputs.
+    let Ok(number) = u32::try_from(output) else {
+        return Err(AllocError);
+    };
+    let mut numbers = Vec::new(alloc);
+    numbers.push(u64::from(number))?;
+    Ok(Some(numbers))
+}
+
+/// The terms of the certificate of this tree, where it tells any. The error is out of memory.
+fn terms_of(
+    alloc: Global,
+    strategy: Strategy,
+    read: Read,
+    tree: &Tree,
+) -> Result<Option<Terms>, AllocError>
+    ensures terms { IfOk result (λ terms. terms ≡ terms_in strategy read tree.now) }
+    ensures told { IfOk result (λ terms. CanTell tree.now terms) }
+{
+    if !tells_terms(strategy, read.output, tree) {
+        return Ok(None);
+    }
+    // For the prover: this call says that the delays are in range.
+    let _steps = read.default.to(Level::X);
+    let outputs = outputs_of(alloc, read.output)?;
+    Ok(Some(Terms {
+        rise: read.default.rise,
+        fall: read.default.fall,
+        outputs,
+    }))
+}
+
+/// A question with these terms, where there are any.
+fn told(question: Question, terms: Option<Terms>) -> Question
+    requires { question.terms ≡ Nothing }
+    ensures { result ≡ record question { terms = terms } }
+{
+    match terms {
+        None => question,
+        Some(terms) => question.with_terms(terms),
+    }
+}
+
 /// The certificate of an exact answer. At no more inputs than there are may bits differ, and the
-/// moments are the circuit's.
+/// moments are the circuit's. The error is out of memory.
 fn certificate(
+    alloc: Global,
     circuit: &Circuit,
-    admit: Admit,
-    moments: Vec<u64>,
+    question: Question,
+    read: Read,
     strategy: Strategy,
     answer: Answer,
-) -> Option<Certificate>
-    requires flips { admit.flips ≤ length admit.held }
-    requires moments { moments.items ≡ circuit.now.moments }
-    ensures { result ≡ certificate_in (problem_by strategy circuit.now admit) answer }
+) -> Result<Option<Certificate>, AllocError>
+    requires flips { question.admit.flips ≤ length question.admit.held }
+    requires moments { question.moments ≡ circuit.now.moments }
+    requires untold { question.terms ≡ Nothing }
+    ensures certified { IfOk result (λ certificate. certificate ≡ certificate_in read (problem_by strategy circuit.now question.admit) answer) }
+    ensures told { IfOk result (λ certificate. CanBeTold read strategy answer) }
 {
     match answer {
         Answer::Exact { time, pair, tree } => {
-            let question = Question::new(admit, moments);
-            Some(certificate_of(circuit, question, time, pair, tree))
+            let terms = terms_of(alloc, strategy, read, &tree)?;
+            let question = told(question, terms);
+            Ok(Some(certificate_of(circuit, question, time, pair, tree)))
         }
-        Answer::Between { .. } => None,
+        Answer::Between { .. } => Ok(None),
     }
 }
 

@@ -17,7 +17,7 @@ pub mod worst;
 
 pub use answer::{Found, unanswered};
 pub use program::{carry_out, refuse_words, run, run_plain};
-pub use question::{Asked, question_of, strategy_of};
+pub use question::{Asked, Read, question_of, strategy_of};
 pub use td_command::{
     BoundRequest, Certificates, CheckRequest, InfoRequest, JoinRequest, PartsRequest, PathRequest,
     QuestionWords, Request, SimRequest, StrategyWord, WorstRequest, laws, parse,

@@ -8,6 +8,8 @@ mod plain;
 #[cfg(test)]
 mod runs;
 #[cfg(test)]
+mod told;
+#[cfg(test)]
 mod unlike;
 #[cfg(test)]
 mod written;

@@ -413,10 +413,10 @@ out",
             names,
             "auto",
             "How the search goes. `least` and `lead` split cubes of pairs; `lead`\n\
-climbs to a first pair and bounds by edges, and its certificates are\n\
-of version 4. `refute` asks a solver how long nets keep their levels,\n\
-and its certificates are of version 5. `auto` is a short `least`, a short\n\
-`lead`, then `refute`, then `lead` again, until one of them\n\
+climbs to a first pair and bounds by edges. `refute` asks a solver how\n\
+long nets keep their levels. Certificates of `lead` and `refute` are of\n\
+version 4. `auto` is a short `least`, a short `lead`, then `refute`, then\n\
+`lead` again, until one of them\n\
 ends",
         )
     }

@@ -3,10 +3,11 @@
 use crate::circuits::{bits_of, circuit_of, delay_by_waves, generated, vectors_of};
 use std::alloc::{AllocError, Global};
 use std::test::*;
+use std::thread::Threads;
 use td_circuit::Circuit;
 use td_domain::{Admit, Cube, signals};
 use td_edges::{Edges, Signal};
-use td_span_search::{Admitted, FOREVER, Limits, Network, Search, Times};
+use td_span_search::{Admitted, Ending, FOREVER, Limits, Network, Search, Team, Times};
 use td_stop::Stop;
 
 /// A way that no pair can go along: its last gate is open only while its first one is closed.
@@ -93,6 +94,33 @@ fn found_in(alloc: Global, circuit: &Circuit, limits: Limits) -> Result<Found, A
     })
 }
 
+/// What a team of this size finds among all pairs with these limits.
+fn found_by<R: Threads + Sync>(
+    rt: &R,
+    alloc: Global,
+    circuit: &Circuit,
+    limits: Limits,
+    size: usize,
+) -> Result<(Found, Option<Ending>), AllocError> {
+    let _few = circuit.gates();
+    let admit = Admit::all(alloc, circuit.input_count())?;
+    let network = Network::new(alloc, circuit)?;
+    let admitted = Admitted::new(alloc, &network, &admit)?;
+    let times = all_times(alloc, circuit)?;
+    let stop = Stop::never();
+    let search = Search::new(alloc, &network, &admitted, &times, limits, &stop)?;
+    let mut team = Team::new(search, size)?;
+    team.run(rt)?;
+    let ending = team.ending();
+    let mut found = Found {
+        low: team.low(),
+        top: team.top(),
+        steps: 0,
+    };
+    found.steps = team.into_refutation(found.top)?.steps.len();
+    Ok((found, ending))
+}
+
 /// The greatest delay of the pairs with this first vector.
 fn worst_from(alloc: Global, circuit: &Circuit, before: u32) -> Result<u64, AllocError> {
     let mut worst = 0;
@@ -141,5 +169,51 @@ fn spans_of_a_false_way(rt: HostRuntime) -> Result<(), Fail> {
     let circuit = circuit_of(alloc, PULSE).ok_or("a circuit")?;
     let pulse = found_in(alloc, &circuit, limits_of(1_000))?;
     assert_eq!(rt; (pulse.low, pulse.top), (0, 0));
+    Ok(())
+}
+
+/// Whether teams find the greatest delay of a circuit, the same each time.
+fn teams_agree<R: Threads + Sync>(
+    rt: &R,
+    alloc: Global,
+    circuit: &Circuit,
+) -> Result<bool, AllocError> {
+    let wanted = worst(alloc, circuit)?;
+    let limits = Limits {
+        alone: 0,
+        ..small_limits()
+    };
+    for size in 2..5 {
+        let (found, ending) = found_by(rt, alloc, circuit, limits, size)?;
+        let (again, _) = found_by(rt, alloc, circuit, limits, size)?;
+        let is_right = found.low <= wanted && wanted <= found.top && found == again;
+        if !is_right || ending == Some(Ending::Closed) && found.low != found.top {
+            return Ok(false);
+        }
+    }
+    Ok(true)
+}
+
+#[test]
+fn teams_beside_all_pairs(rt: HostRuntime) -> Result<(), Fail> {
+    let alloc = rt.alloc();
+    for seed in 0..8 {
+        let circuit = generated(alloc, 1 + seed % 3, 2 + seed % 9, seed).ok_or("a circuit")?;
+        assert!(&rt; teams_agree(&rt, alloc, &circuit)?, "circuit {seed}");
+    }
+    Ok(())
+}
+
+#[test]
+fn a_team_that_may_take_no_memory(rt: HostRuntime) -> Result<(), Fail> {
+    let alloc = rt.alloc();
+    let circuit = circuit_of(alloc, FALSE_WAY).ok_or("a circuit")?;
+    let limits = Limits {
+        words: 0,
+        ..small_limits()
+    };
+    let (found, ending) = found_by(&rt, alloc, &circuit, limits, 2)?;
+    assert_eq!(&rt; ending, Some(Ending::Memory));
+    assert_eq!(&rt; (found.top, found.steps), (14, 0));
     Ok(())
 }

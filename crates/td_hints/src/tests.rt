@@ -112,7 +112,7 @@ fn faults_of_certificates_have_lines(rt: HostRuntime) -> Result<(), Fail> {
     Ok(())
 }
 
-const VERDICTS: [Verdict; 12] = [
+const VERDICTS: [Verdict; 13] = [
     Verdict::Accepted,
     Verdict::PairTime,
     Verdict::LeafBound(7),
@@ -125,6 +125,7 @@ const VERDICTS: [Verdict; 12] = [
     Verdict::BadStep(7, Flaw::WrongNumbers),
     Verdict::BadStep(7, Flaw::LateVariable),
     Verdict::BadStep(7, Flaw::NotGood),
+    Verdict::OtherQuestion(3),
 ];
 
 #[test]
@@ -138,13 +139,15 @@ fn verdicts_have_lines(rt: HostRuntime) -> Result<(), Fail> {
 
 #[test]
 fn faults_of_joins_have_lines(rt: HostRuntime) -> Result<(), Fail> {
-    let faults: [JoinFault<usize>; 11] = [
+    let faults: [JoinFault<usize>; 13] = [
         JoinFault::OutOfMemory,
         JoinFault::NoCertificate,
         JoinFault::OtherCircuit(0, 1),
         JoinFault::OtherHold(0, 1),
         JoinFault::OtherFlips(0, 1),
         JoinFault::OtherMoments(0, 1),
+        JoinFault::OtherTerms(0, 1),
+        JoinFault::Open(0),
         JoinFault::Outside(0),
         JoinFault::Overlap(0, 1),
         JoinFault::Crossed(0, 1),

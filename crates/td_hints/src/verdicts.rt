@@ -27,7 +27,9 @@ pub fn sentence(verdict: Verdict) -> &'static [u8]
         Verdict::LeafBound(_) => {
             b"a leaf's number is less than the bound of its cube, or isn't the delay of its pair"
         }
-        Verdict::LeafAboveTime(_) => b"a leaf's number is greater than the certificate's time",
+        Verdict::LeafAboveTime(_) => {
+            b"a leaf's number is greater than the certificate's time, or than the number of its line high"
+        }
         Verdict::BadPosition(_) => b"a split at a position that doesn't exist or isn't free there",
         Verdict::NotAPoint(_) => b"a leaf of one pair where a bit is still free",
         Verdict::OtherCircuit => b"it is of a circuit with another number of inputs or gates",
@@ -38,6 +40,7 @@ pub fn sentence(verdict: Verdict) -> &'static [u8]
             b"a leaf says that no admitted pair lies in its cube, and one does"
         }
         Verdict::BadStep(_, flaw) => flaw_sentence(flaw),
+        Verdict::OtherQuestion(_) => b"it is about other default delays, or about other outputs",
     }
 }
 
@@ -61,6 +64,9 @@ pub fn advice(verdict: Verdict) -> &'static [u8]
         }
         Verdict::PairNotAdmitted => b"the certificate is wrong: search again",
         Verdict::LeafNotEmpty(_) => b"the certificate is wrong: search again",
+        Verdict::OtherQuestion(_) => {
+            b"give the --default-rise, --default-fall and --output of its search: its line tells them"
+        }
         Verdict::BadStep(_, _) => {
             b"check it with the netlist, the default delays and the --output that it was made for; else make it again"
         }

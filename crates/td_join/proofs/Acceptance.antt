@@ -21,7 +21,7 @@ use Rattle.td_certificate.specs.Accepts.{IsGood, IsOfCube, IsWithin, Accepts, se
 use Rattle.td_certificate.proofs.TreeLaws.{trees_are_counted}
 use Rattle.td_certificate.proofs.Walking.{lines_are_walked}
 use Rattle.td_certificate.proofs.Acceptance.{at_moments}
-use Rattle.td_join.specs.Joining.{pins_of, is_zero, is_one, is_known, AreJoined, alone, missing, halved, IsAlike, AcceptedTogether}
+use Rattle.td_join.specs.Joining.{pins_of, is_zero, is_one, is_known, AreJoined, alone, missing, halved, IsAlike, IsClosed, AcceptedTogether}
 use Rattle.td_join.proofs.Pinned.{same_pairs, refuted_wider}
 use Rattle.td_join.proofs.Cubing.{wider, filter_has, Contains-less}
 use Rattle.td_join.proofs.Restricting.{is_known_at}
@@ -80,8 +80,8 @@ module _ (setting : Setting) (admit : Admitted) (own : List Trit) (least most : 
 -- the certificate's tree is good with its own pins and time, and its time is at most this
 record IsGoodPart (setting : Setting) (admit : Admitted) (most : ℕ) (c : Certificate) : Type 0 where
   is_tree : IsTree c.tree
-  good : AllByRecursion (IsGood setting (same_pairs admit (pins_of c)) c.time) (lines_from (pins_of c ∷ []) c.tree)
-  less : c.time ≤ most
+  good : AllByRecursion (IsGood setting (same_pairs admit (pins_of c)) c.high) (lines_from (pins_of c ∷ []) c.tree)
+  less : c.high ≤ most
 
 -- the tree whose nodes these are is good
 record IsGoodTree (setting : Setting) (admit : Admitted) (most : ℕ) (cube : List Trit) (nodes : List Node) : Type 0 where
@@ -98,8 +98,8 @@ module _ (setting : Setting) (admit : Admitted) (most : ℕ) where
       record {
         tree = t.0;
         nodes_are = t.1;
-        good = lines_more setting admit (pins_of c) c.time most part.less t.0 (pins_of c) (λ pair h. h)
-            (subst (λ (ls : List Line). AllByRecursion (IsGood setting (same_pairs admit (pins_of c)) c.time) ls) walked part.good);
+        good = lines_more setting admit (pins_of c) c.high most part.less t.0 (pins_of c) (λ pair h. h)
+            (subst (λ (ls : List Line). AllByRecursion (IsGood setting (same_pairs admit (pins_of c)) c.high) ls) walked part.good);
       }
 
   empty_tree : (cube : List Trit) → (¬ HasAdmitted admit cube) → IsGoodTree setting admit most cube (node.Empty ∷ [])
@@ -211,10 +211,14 @@ accepted_together netlist certificates pins whole joined accepted =
     let from : Certificate = joined.pair.certificate in
     let alike = All-contains (IsAlike whole) certificates from joined.alike joined.pair.among in
     let given = All-contains (Accepts netlist) certificates from accepted joined.pair.among in
-    let part : (c : Certificate) → Contains certificates c → IsGoodPart (setting_of netlist whole) whole.question.admit whole.time c =
+    let low : (c : Certificate) → Contains certificates c → c.high ≤ whole.high = λ c has.
+    let closed = All-contains IsClosed certificates c joined.closed has in
+    let less = All-contains (λ d. d.time ≤ whole.time) certificates c joined.greatest has in
+    omega (arith, closed, less, joined.whole_closed) in
+    let part : (c : Certificate) → Contains certificates c → IsGoodPart (setting_of netlist whole) whole.question.admit whole.high c =
     λ c has. good_part c (All-contains (IsAlike whole) certificates c joined.alike has) (All-contains (Accepts netlist) certificates c accepted has)
-    (All-contains (λ d. d.time ≤ whole.time) certificates c joined.greatest has) in
-    let tree = joined_tree (setting_of netlist whole) whole.question.admit whole.time pins certificates whole.tree joined.tree (All-from_contains (IsGoodPart (setting_of netlist whole) whole.question.admit whole.time) certificates part) in
+    (low c has) in
+    let tree = joined_tree (setting_of netlist whole) whole.question.admit whole.high pins certificates whole.tree joined.tree (All-from_contains (IsGoodPart (setting_of netlist whole) whole.question.admit whole.high) certificates part) in
     record {
       size = record { inputs = given.size.inputs ∙ ap (λ (hs : List Bool). length hs) (sym alike.held); gates = given.size.gates ∙ sym alike.gates };
       admitted = subst (λ (p : Pair). IsAdmitted whole.question.admit p) joined.pair.pair_is (record {
@@ -227,17 +231,17 @@ accepted_together netlist certificates pins whole joined accepted =
           (subst (λ (p : Pair). IsDelayOfBits (setting_of netlist whole) p.first p.second from.time) joined.pair.pair_is
           (subst (λ (ms : List ℕ). IsDelayOfBits (at_moments netlist ms) from.pair.first from.pair.second from.time) (sym alike.moments) given.reached));
       tree = subst (λ (ns : List Node). IsTree ns) tree.nodes_are (trees_are_counted.counted tree.tree);
-      good = subst (λ (x : List Trit). AllByRecursion (IsGood (setting_of netlist whole) whole.question.admit whole.time) (lines_from (x ∷ []) whole.tree)) (sym joined.pins_are)
-          (subst (λ (ns : List Node). AllByRecursion (IsGood (setting_of netlist whole) whole.question.admit whole.time) (lines_from (pins ∷ []) ns)) tree.nodes_are
-          (subst (λ (ls : List Line). AllByRecursion (IsGood (setting_of netlist whole) whole.question.admit whole.time) ls) (sym (lines_are_walked tree.tree pins)) tree.good));
+      good = subst (λ (x : List Trit). AllByRecursion (IsGood (setting_of netlist whole) whole.question.admit whole.high) (lines_from (x ∷ []) whole.tree)) (sym joined.pins_are)
+          (subst (λ (ns : List Node). AllByRecursion (IsGood (setting_of netlist whole) whole.question.admit whole.high) (lines_from (pins ∷ []) ns)) tree.nodes_are
+          (subst (λ (ls : List Line). AllByRecursion (IsGood (setting_of netlist whole) whole.question.admit whole.high) ls) (sym (lines_are_walked tree.tree pins)) tree.good));
     }
   where
-    good_part : (c : Certificate) → IsAlike whole c → Accepts netlist c → c.time ≤ whole.time → IsGoodPart (setting_of netlist whole) whole.question.admit whole.time c
+    good_part : (c : Certificate) → IsAlike whole c → Accepts netlist c → c.high ≤ whole.high → IsGoodPart (setting_of netlist whole) whole.question.admit whole.high c
     good_part c alike accepts less = record {
       is_tree = accepts.tree;
-      good = subst (λ (s : Setting). AllByRecursion (IsGood s (same_pairs whole.question.admit (pins_of c)) c.time) (lines_from (pins_of c ∷ []) c.tree))
+      good = subst (λ (s : Setting). AllByRecursion (IsGood s (same_pairs whole.question.admit (pins_of c)) c.high) (lines_from (pins_of c ∷ []) c.tree))
           (ap (at_moments netlist) (sym alike.moments))
-          (subst (λ (a : Admitted). AllByRecursion (IsGood (setting_of netlist c) a c.time) (lines_from (pins_of c ∷ []) c.tree))
+          (subst (λ (a : Admitted). AllByRecursion (IsGood (setting_of netlist c) a c.high) (lines_from (pins_of c ∷ []) c.tree))
           (same_question whole.question.admit c.question.admit alike.held alike.flips) accepts.good);
       less = less;
     }

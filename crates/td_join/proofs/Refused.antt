@@ -74,8 +74,8 @@ refused question c netlist first held flips fit none accepts =
     let t = trees_are_counted.has_tree c.tree accepts.tree in
     let walked : lines_from (pins_of c ∷ []) c.tree ≡ lines_of (pins_of c) t.0 =
     ap (λ (ns : List Node). lines_from (pins_of c ∷ []) ns) (sym t.1) ∙ lines_are_walked t.0 (pins_of c) in
-    let never = good_none (setting_of netlist c) c.question.admit c.time fit (subst (λ (hs : List Bool). holds_none hs ≡ true) held two.0)
+    let never = good_none (setting_of netlist c) c.question.admit c.high fit (subst (λ (hs : List Bool). holds_none hs ≡ true) held two.0)
     (sym flips ∙ eqb-true question.admit.flips (length question.admit.held) two.1 ∙ ap (λ (hs : List Bool). length hs) held)
-    t.0 (pins_of c) refl (λ pair h. h) (subst (λ (ls : List Line). AllByRecursion (IsGood (setting_of netlist c) c.question.admit c.time) ls) walked accepts.good) in
+    t.0 (pins_of c) refl (λ pair h. h) (subst (λ (ls : List Line). AllByRecursion (IsGood (setting_of netlist c) c.question.admit c.high) ls) walked accepts.good) in
     let clash : true ≡ false = sym none ∙ ap (λ (ns : List Node). has_none ns) (sym t.1) ∙ never in
     absurd cc

@@ -1,6 +1,6 @@
 -- Where certificates have a text, so has what they are joined into.
-use Rattle.std.proofs.Common.{◌≡◌, ◌≢◌, ◌≤◌, ◌*◌, ℕ, zero, suc, Bool, true, false, List, [], ◌∷◌, length, refl, sym, ap, subst, ◌∙◌, arith}
-use Rattle.std.specs.Prelude.{slice_get, All, ◌==◌, ◌&&◌, if◌then◌else◌}
+use Rattle.std.proofs.Common.{◌≡◌, ◌≢◌, ◌≤◌, ◌*◌, ℕ, zero, suc, Bool, true, false, List, [], ◌∷◌, length, Option, Some, None, inl, inr, refl, sym, ap, subst, ◌∙◌, arith}
+use Rattle.std.specs.Prelude.{slice_get, All, Contains, ◌==◌, ◌&&◌, if◌then◌else◌}
 use Rattle.std.specs.List.{AllByRecursion, list_all}
 use Rattle.std.proofs.lemmas.Bool.{eqb-true, and_parts}
 use Rattle.std.proofs.lemmas.List.{length-set}
@@ -16,12 +16,13 @@ use Rattle.td_domain.proofs.Lists.{all_append}
 use Rattle.td_certificate.specs.declared.tree.Node.{Node}
 use Rattle.td_certificate.specs.declared.tree.Node.TheVariants as node
 use Rattle.td_certificate.specs.declared.question.Version.{Version}
-use Rattle.td_certificate.specs.declared.question.Version.TheVariants.{First, Second, Third, Fourth, Fifth}
+use Rattle.td_certificate.specs.declared.question.Version.TheVariants.{First, Second, Third, Fourth}
 use Rattle.td_certificate.specs.declared.certificate.Certificate.{Certificate}
-use Rattle.td_certificate.specs.Questions.{Question, inputs_of, is_free, holds_none, admits_all, is_at_once, version_of}
-use Rattle.td_certificate.specs.Spelling.{HasSpelling, IsNode, version_in, latest}
-use Rattle.td_certificate.specs.Trees.{IsTree, has_edges, has_refuted}
-use Rattle.td_join.specs.Joining.{pins_of, is_zero, is_one, has_none, AreJoined, alone, missing, halved, IsAlike, IsJoined}
+use Rattle.td_certificate.specs.Questions.{Terms, Question, inputs_of, is_free, holds_none, admits_all, is_at_once, version_by, version_of}
+use Rattle.td_certificate.specs.Spelling.{HasSpelling, IsNode, AreTerms, version_in, latest}
+use Rattle.td_certificate.specs.Trees.{IsTree}
+use Rattle.td_certificate.proofs.Told.{one_moment}
+use Rattle.td_join.specs.Joining.{pins_of, is_zero, is_one, has_none, AreJoined, alone, missing, halved, AreMerged, IsAlike, IsJoined}
 
 -- ---- where all pairs are admitted, one lies in each cube
 
@@ -116,34 +117,61 @@ each_has admit cube all fits same =
       in_cube cube (length admit.held) here,
     )
 
+-- the version tells what a question has
+pub no_terms : (terms : Option Terms) (admit : Admitted) (moments : List ℕ) → version_by terms admit moments ≡ First → terms ≡ None
+no_terms None admit moments e = refl
+no_terms (Some terms) admit moments e = absurd cc
+
 by_tests : (once all : Bool) → (if once then (if all then First else Second) else Third) ≡ First → all ≡ true
 by_tests true true e = refl
 by_tests true false e = absurd cc
 by_tests false true e = refl
 by_tests false false e = absurd cc
 
-pub all_admitted : (question : Question) → version_of question ≡ First → admits_all question.admit ≡ true
-all_admitted question e = by_tests (is_at_once question.moments) (admits_all question.admit) e
+by_terms : (terms : Option Terms) (admit : Admitted) (moments : List ℕ) → version_by terms admit moments ≡ First → admits_all admit ≡ true
+by_terms None admit moments e = by_tests (is_at_once moments) (admits_all admit) e
+by_terms (Some terms) admit moments e = absurd cc
 
-plain : (refuted edges : Bool) (version : Version) → (if refuted then Fifth else (if edges then Fourth else version)) ≡ First → version ≡ First
-plain true edges version e = absurd cc
-plain false true version e = absurd cc
-plain false false version e = e
+pub all_admitted : (question : Question) → version_of question ≡ First → admits_all question.admit ≡ true
+all_admitted question e = by_terms question.terms question.admit question.moments e
+
+not_fourth : (once all : Bool) → (if once then (if all then First else Second) else Third) ≢ Fourth
+not_fourth true true e = cc
+not_fourth true false e = cc
+not_fourth false all e = cc
+
+no_fourth : (terms : Option Terms) (admit : Admitted) (moments : List ℕ) → terms ≡ None → version_by terms admit moments ≢ Fourth
+no_fourth None admit moments none e = not_fourth (is_at_once moments) (admits_all admit) e
+no_fourth (Some terms) admit moments none e = absurd cc
+
+told_fourth : (terms : Option Terms) (admit : Admitted) (moments : List ℕ) → version_by terms admit moments ≡ Fourth → (t : Terms) × (terms ≡ Some t)
+told_fourth None admit moments e = absurd (not_fourth (is_at_once moments) (admits_all admit) e)
+told_fourth (Some terms) admit moments e = (terms, refl)
+
+some_fourth : (terms : Option Terms) (t : Terms) (admit : Admitted) (moments : List ℕ) → terms ≡ Some t → version_by terms admit moments ≡ Fourth
+some_fourth terms t admit moments e = ap (λ (x : Option Terms). version_by x admit moments) e
+
+-- where a part tells terms, so does the whole
+merged_fourth : (whole part : Question) → AreMerged whole.terms part.terms → version_of part ≡ Fourth → version_of whole ≡ Fourth
+merged_fourth whole part (inl none) e = absurd (no_fourth part.terms part.admit part.moments none e)
+merged_fourth whole part (inr same) e =
+    let t = told_fourth part.terms part.admit part.moments e in
+    some_fourth whole.terms t.0 whole.admit whole.moments (sym same ∙ t.1)
 
 -- ---- nodes of a text
 
 none_behind : (b : Bool) {X : Type 0} → true ≡ false → X
 none_behind b e = absurd cc
 
-nodes_in : (mine whole : Version) (nodes : List Node) → (whole ≡ First → has_none nodes ≡ false) → AllByRecursion (IsNode mine) nodes
+nodes_in : (mine whole : Version) (nodes : List Node) → (mine ≡ Fourth → whole ≡ Fourth) → (whole ≡ First → has_none nodes ≡ false) → AllByRecursion (IsNode mine) nodes
     → AllByRecursion (IsNode whole) nodes
-nodes_in mine whole [] none are = tt
-nodes_in mine whole (node.Split position ∷ nodes) none are = (are.0, nodes_in mine whole nodes none are.1)
-nodes_in mine whole (node.Bound domain bound ∷ nodes) none are = (are.0, nodes_in mine whole nodes none are.1)
-nodes_in mine whole (node.Point time ∷ nodes) none are = (are.0, nodes_in mine whole nodes none are.1)
-nodes_in mine whole (node.Refuted refuted ∷ nodes) none are = (are.0, nodes_in mine whole nodes none are.1)
-nodes_in mine whole (node.Empty ∷ nodes) none are =
-    (λ e. none_behind true (none e), nodes_in mine whole nodes (λ e. none_behind true (none e)) are.1)
+nodes_in mine whole [] told none are = tt
+nodes_in mine whole (node.Split position ∷ nodes) told none are = (are.0, nodes_in mine whole nodes told none are.1)
+nodes_in mine whole (node.Bound domain bound ∷ nodes) told none are = ((are.0.0, λ other. are.0.1 (λ e. other (told e))), nodes_in mine whole nodes told none are.1)
+nodes_in mine whole (node.Point time ∷ nodes) told none are = (are.0, nodes_in mine whole nodes told none are.1)
+nodes_in mine whole (node.Refuted refuted ∷ nodes) told none are = ((are.0.0, told are.0.1), nodes_in mine whole nodes told none are.1)
+nodes_in mine whole (node.Empty ∷ nodes) told none are =
+    (λ e. none_behind true (none e), nodes_in mine whole nodes told (λ e. none_behind true (none e)) are.1)
 
 joined_nodes : (admit : Admitted) (version : Version) (fits : ℕ) (cube : List Trit) (certificates : List Certificate) (nodes : List Node) → fits ≤ 8192
     → length cube ≡ fits → ((other : List Trit) → length other ≡ fits → (¬ HasAdmitted admit other) → version ≢ First)
@@ -172,7 +200,8 @@ spelled_together certificates pins whole joined fits reported tree all =
     let given = All-contains HasSpelling certificates from all joined.pair.among in
     let same : inputs_of whole.question ≡ inputs_of from.question = ap (λ (hs : List Bool). length hs) alike.held in
     let few : length whole.question.admit.pins ≤ 8192 = omega (arith, fits, same, given.inputs) in
-    let asked : version_in whole ≡ First → version_of whole.question ≡ First = λ e. plain (has_refuted whole.tree) (has_edges whole.tree) (version_of whole.question) e in
+    let merged = λ (c : Certificate) (has : Contains certificates c). All-contains (λ d. AreMerged whole.question.terms d.question.terms) certificates c joined.terms has in
+    let teller = All-contains HasSpelling certificates joined.told.certificate all joined.told.among in
     record {
       inputs = omega (arith, same, given.inputs);
       gates = omega (arith, alike.gates, given.gates);
@@ -180,15 +209,17 @@ spelled_together certificates pins whole joined fits reported tree all =
       flips = omega (arith, alike.flips, given.flips, same);
       count = ap (λ (ms : List ℕ). length ms) alike.moments ∙ given.count ∙ sym same;
       moments = subst (λ (ms : List ℕ). AllByRecursion (λ moment. moment ≤ latest) ms) (sym alike.moments) given.moments;
+      terms = subst AreTerms joined.told.terms_are teller.terms;
       time = omega (arith, joined.pair.time_is, given.time);
+      high = one_moment (version_in whole) whole.time whole.high joined.whole_closed (omega (arith, joined.pair.time_is, given.time));
       first = ap (λ (p : Pair). length p.first) (sym joined.pair.pair_is) ∙ given.first ∙ sym same;
       second = ap (λ (p : Pair). length p.second) (sym joined.pair.pair_is) ∙ given.second ∙ sym same;
       nodes = joined_nodes whole.question.admit (version_in whole) (length whole.question.admit.pins) pins certificates whole.tree few
           (ap (λ (cube : List Trit). length cube) (sym joined.pins_are))
-          (λ other long none first. none (each_has whole.question.admit other (all_admitted whole.question (asked first)) fits long))
+          (λ other long none first. none (each_has whole.question.admit other (all_admitted whole.question first) fits long))
           (All-from_contains (λ c. AllByRecursion (IsNode (version_in whole)) c.tree) certificates (λ c has.
-          nodes_in (version_in c) (version_in whole) c.tree
-          (λ first. All-contains (λ d. has_none d.tree ≡ false) certificates c (reported (asked first)) has)
+          nodes_in (version_in c) (version_in whole) c.tree (merged_fourth whole.question c.question (merged c has))
+          (λ first. All-contains (λ d. has_none d.tree ≡ false) certificates c (reported first) has)
           (All-contains HasSpelling certificates c all has).nodes))
           joined.tree;
       tree = tree;

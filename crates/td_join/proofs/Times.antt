@@ -15,12 +15,12 @@ same_time these those pins others this that moved one other =
     let high = All-contains (λ c. c.time ≤ this.time) those yours (All-permutation (λ c. c.time ≤ this.time) these those moved one.greatest) other.pair.among in
     omega (arith, low, high, one.pair.time_is, other.pair.time_is)
 
--- ---- the greatest of some times
+-- what holds of the certificates before a place and of the one there holds of those up to it
+pub one_more : (P : Certificate → Type 0) (certificates : List Certificate) (place : ℕ) (x : Certificate) → place < length certificates → x ≡ get_or certificates place x
+    → P x → All P (take place certificates) → All P (take (place + 1) certificates)
+one_more P certificates place x less is has before = All-more P certificates place x less before (subst P is has)
 
-one_more : (certificates : List Certificate) (place : ℕ) (x w : Certificate) → place < length certificates → x ≡ get_or certificates place x
-    → x.time ≤ w.time → All (λ c. c.time ≤ w.time) (take place certificates) → All (λ c. c.time ≤ w.time) (take (place + 1) certificates)
-one_more certificates place x w less is few before =
-    All-more (λ c. c.time ≤ w.time) certificates place x less before (subst (λ (c : Certificate). c.time ≤ w.time) is few)
+-- ---- the greatest of some times
 
 -- the next one is greater
 pub newer : (certificates : List Certificate) (place old next : ℕ) (x y : Certificate) → place < length certificates → x ≡ get_or certificates place x
@@ -34,7 +34,7 @@ newer certificates place old next x y less is within was greater before now w st
     let more : x.time ≤ w.time = subst (λ (c : Certificate). x.time ≤ c.time) same (omega arith) in
     let lower : y.time < x.time = subst (λ (c : Certificate). c.time < x.time) (sym was) greater in
     let least : y.time ≤ w.time = omega (arith, lower, more) in
-    one_more certificates place x w less is more
+    one_more (λ c. c.time ≤ w.time) certificates place x less is more
     (All-weaker (λ c. c.time ≤ y.time) (λ c. c.time ≤ w.time) (λ c h. omega (arith, h, least)) (take place certificates) all)
 
 -- it isn't
@@ -45,4 +45,4 @@ pub older : (certificates : List Certificate) (place old next : ℕ) (x y : Cert
 older certificates place old next x y less is was few before now w stands =
     let here : slice_get certificates old ≡ Some w = subst (λ (n : ℕ). slice_get certificates n ≡ Some w) now stands in
     let same : y ≡ w = was ∙ slice_get-get certificates old w y here in
-    one_more certificates place x w less is (subst (λ (c : Certificate). x.time ≤ c.time) same (subst (λ (c : Certificate). x.time ≤ c.time) (sym was) few)) (before w here)
+    one_more (λ c. c.time ≤ w.time) certificates place x less is (subst (λ (c : Certificate). x.time ≤ c.time) same (subst (λ (c : Certificate). x.time ≤ c.time) (sym was) few)) (before w here)

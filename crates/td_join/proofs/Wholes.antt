@@ -1,5 +1,5 @@
 -- The certificate of the whole.
-use Rattle.std.proofs.Common.{◌≡◌, ◌<◌, ◌≤◌, ℕ, List, length, Some, refl, sym, ap, subst, ◌∙◌}
+use Rattle.std.proofs.Common.{◌≡◌, ◌<◌, ◌≤◌, ℕ, List, length, Some, inl, inr, refl, sym, ap, subst, ◌∙◌}
 use Rattle.std.specs.Prelude.{All, Contains, slice_get}
 use Rattle.std.proofs.lemmas.List.Elements.{All-weaker, All-contains}
 use Rattle.td_domain.specs.declared.cubes.Trit.{Trit}
@@ -9,7 +9,7 @@ use Rattle.td_certificate.specs.declared.certificate.Certificate.{Certificate}
 use Rattle.td_certificate.specs.declared.question.Version.TheVariants.{First}
 use Rattle.td_certificate.specs.Questions.{Question, version_of}
 use Rattle.td_gates.proofs.Places.{slice_get-Contains, slice_get-within}
-use Rattle.td_join.specs.Joining.{with_pins, AreJoined, IsAlike, IsJoined}
+use Rattle.td_join.specs.Joining.{with_pins, AreJoined, AreMerged, HasTerms, IsClosed, IsAlike, IsJoined}
 use Rattle.td_domain.specs.Admits.{Admitted}
 use Rattle.td_join.specs.declared.fault.JoinFault.{JoinFault}
 use Rattle.td_join.specs.declared.fault.JoinFault.TheVariants as fault
@@ -17,22 +17,29 @@ use Rattle.td_join.specs.Faults.{IsGap, IsUnjoinable, IsJoinFault}
 use Rattle.td_join.specs.Steps.{HasFit, IsJoinable, IsFalseNoneIn}
 use Rattle.td_join.specs.Stacks.{IsOfQuestion, IsTreeFault}
 use Rattle.td_join.proofs.Refused.{refused}
+use Rattle.td_join.proofs.Spelled.{no_terms}
 use Rattle.td_join.proofs.Pinned.{same_pairs}
 
-abbrev pub whole_of : ℕ → Question → ℕ → Pair → List Node → Certificate
-whole_of gates question time pair tree = record { gates = gates; question = question; time = time; pair = pair; tree = tree }
+abbrev pub whole_of : ℕ → Question → ℕ → ℕ → Pair → List Node → Certificate
+whole_of gates question time high pair tree = record { gates = gates; question = question; time = time; high = high; pair = pair; tree = tree }
 
 pub is_joined : (certificates : List Certificate) (gates : ℕ) (question : Question) (first : Certificate) (place : ℕ) (pair : Pair) (tree nodes : List Node)
     → slice_get certificates place ≡ Some first → All (IsOfQuestion gates question) certificates → All (λ c. c.time ≤ first.time) certificates
     → pair ≡ first.pair → nodes ≡ tree → AreJoined question.admit question.admit.pins certificates tree
-    → IsJoined certificates question.admit.pins (whole_of gates question first.time pair nodes)
-is_joined certificates gates question first place pair tree nodes at alike greatest copied same joined = record {
-  alike = All-weaker (IsOfQuestion gates question) (IsAlike (whole_of gates question first.time pair nodes))
+    → All (λ c. AreMerged question.terms c.question.terms) certificates → HasTerms certificates question.terms
+    → All IsClosed certificates
+    → IsJoined certificates question.admit.pins (whole_of gates question first.time first.time pair nodes)
+is_joined certificates gates question first place pair tree nodes at alike greatest copied same joined terms told closed = record {
+  alike = All-weaker (IsOfQuestion gates question) (IsAlike (whole_of gates question first.time first.time pair nodes))
       (λ c h. record { gates = h.gates_are; held = h.held; flips = h.flips; moments = h.moments }) certificates alike;
   pins_are = refl;
   tree = subst (λ (ns : List Node). AreJoined question.admit question.admit.pins certificates ns) (sym same) joined;
   greatest = greatest;
   pair = record { certificate = first; among = slice_get-Contains certificates place first at; time_is = refl; pair_is = sym copied };
+  terms = terms;
+  told = told;
+  closed = closed;
+  whole_closed = refl;
 }
 
 -- ---- faults
@@ -71,15 +78,21 @@ module _ (certificates : List Certificate) (gates : ℕ) (question : Question) (
   reported (fault.OtherHold this that) h = absurd h
   reported (fault.OtherFlips this that) h = absurd h
   reported (fault.OtherMoments this that) h = absurd h
+  reported (fault.OtherTerms this that) h = absurd h
+  reported (fault.Open this) h = absurd h
   reported (fault.Outside this) h = absurd h
   reported (fault.FalseNone this) h = absurd h
 
   same_question : (this that : Question) → this.admit ≡ record that.admit { pins = this.admit.pins } → this.moments ≡ that.moments
-      → this ≡ with_pins that this.admit.pins
-  same_question this that admit moments = rw (admit, moments) refl
+      → this.terms ≡ that.terms → this ≡ with_pins that this.admit.pins
+  same_question this that admit moments terms = rw (admit, moments, terms) refl
 
-  pub false_none : All HasFit certificates → (reported : JoinFault ℕ) → IsFalseNoneIn certificates question reported → IsJoinFault certificates question.admit.pins reported
-  false_none fit reported h =
+  same_terms : (this that : Question) → version_of this ≡ First → AreMerged this.terms that.terms → this.terms ≡ that.terms
+  same_terms this that first (inl none) = no_terms this.terms this.admit this.moments first ∙ sym none
+  same_terms this that first (inr same) = sym same
+
+  pub false_none : All HasFit certificates → All (λ c. AreMerged question.terms c.question.terms) certificates → (reported : JoinFault ℕ) → IsFalseNoneIn certificates question reported → IsJoinFault certificates question.admit.pins reported
+  false_none fit merged reported h =
       let c = h.certificate in
       let has = slice_get-Contains certificates h.place c h.at in
       let mine = All-contains (IsOfQuestion gates question) certificates c alike has in
@@ -90,7 +103,9 @@ module _ (certificates : List Certificate) (gates : ℕ) (question : Question) (
         first_at = first_of.1;
         at = h.at;
         all = subst (λ (q : Question). version_of q ≡ First)
-            (same_question question first_of.0.question (of_first first_of.0 (slice_get-Contains certificates 0 first_of.0 first_of.1)) first.moments) h.all;
+            (same_question question first_of.0.question (of_first first_of.0 (slice_get-Contains certificates 0 first_of.0 first_of.1)) first.moments
+            (same_terms question first_of.0.question h.all
+            (All-contains (λ d. AreMerged question.terms d.question.terms) certificates first_of.0 merged (slice_get-Contains certificates 0 first_of.0 first_of.1)))) h.all;
         none = h.none;
         refused = λ netlist. refused question c netlist h.all mine.held mine.flips (All-contains HasFit certificates c fit has) h.none;
       })

@@ -1,5 +1,5 @@
 -- Why certificates aren't joined.
-use Rattle.std.specs.Prelude.{◌≡◌, ◌≢◌, ℕ, true, List, [], All, Contains, length, slice_get, Some, ◌⊎◌}
+use Rattle.std.specs.Prelude.{◌≡◌, ◌≢◌, ℕ, true, List, [], All, Contains, length, slice_get, Some, None, ◌⊎◌}
 use Rattle.td_nets.specs.Netlist.{Netlist}
 use Rattle.td_domain.specs.declared.cubes.Trit.{Trit}
 use Rattle.td_domain.specs.declared.cubes.Trit.TheVariants.{Free}
@@ -23,6 +23,8 @@ renamed name (fault.OtherCircuit this that) = fault.OtherCircuit (name this) (na
 renamed name (fault.OtherHold this that) = fault.OtherHold (name this) (name that)
 renamed name (fault.OtherFlips this that) = fault.OtherFlips (name this) (name that)
 renamed name (fault.OtherMoments this that) = fault.OtherMoments (name this) (name that)
+renamed name (fault.OtherTerms this that) = fault.OtherTerms (name this) (name that)
+renamed name (fault.Open this) = fault.Open (name this)
 renamed name (fault.Outside this) = fault.Outside (name this)
 renamed name (fault.Overlap this that) = fault.Overlap (name this) (name that)
 renamed name (fault.Crossed this that) = fault.Crossed (name this) (name that)
@@ -46,6 +48,32 @@ pub record IsUnlikeIn (certificates : List Certificate) (reported : JoinFault �
   pub first_at : slice_get certificates 0 ≡ Some first
   pub other_at : slice_get certificates place ≡ Some other
   pub unlike : IsUnlike first other place reported
+
+-- a certificate tells terms, and another one none of these
+abbrev pub IsOtherTerms : Certificate → ℕ → Certificate → ℕ → JoinFault ℕ → Type 0
+IsOtherTerms first at other place (fault.OtherTerms this that) =
+    (this ≡ at) × (that ≡ place) × (other.question.terms ≢ None) × (other.question.terms ≢ first.question.terms)
+IsOtherTerms first at other place fault = ⊥
+
+pub record IsOtherTermsIn (certificates : List Certificate) (reported : JoinFault ℕ) : Type 0 where
+  pub first : Certificate
+  pub other : Certificate
+  pub at : ℕ
+  pub place : ℕ
+  pub first_at : slice_get certificates at ≡ Some first
+  pub other_at : slice_get certificates place ≡ Some other
+  pub unlike : IsOtherTerms first at other place reported
+
+-- a certificate tells no worst delay: its two moments aren't one
+abbrev pub IsOpen : Certificate → ℕ → JoinFault ℕ → Type 0
+IsOpen certificate place (fault.Open this) = (this ≡ place) × (certificate.high ≢ certificate.time)
+IsOpen certificate place fault = ⊥
+
+pub record IsOpenIn (certificates : List Certificate) (reported : JoinFault ℕ) : Type 0 where
+  pub certificate : Certificate
+  pub place : ℕ
+  pub at : slice_get certificates place ≡ Some certificate
+  pub is_open : IsOpen certificate place reported
 
 -- the cube is a part of the pins: it has as many positions, and each bit that is known in them
 pub record IsInside (pins cube : List Trit) : Type 0 where
@@ -141,4 +169,6 @@ IsJoinFault certificates pins (fault.Crossed this that) = IsCrossed certificates
 IsJoinFault certificates pins (fault.Gap cube) =
     (first : Certificate) × (slice_get certificates 0 ≡ Some first) × IsGap (record first.question.admit { pins = pins }) certificates cube
 IsJoinFault certificates pins (fault.FalseNone place) = IsFalseNone certificates pins place
+IsJoinFault certificates pins (fault.OtherTerms this that) = IsOtherTermsIn certificates (fault.OtherTerms this that)
+IsJoinFault certificates pins (fault.Open place) = IsOpenIn certificates (fault.Open place)
 IsJoinFault certificates pins fault = IsUnlikeIn certificates fault

@@ -1,5 +1,5 @@
 -- Certificates of the parts of a question, joined into one.
-use Rattle.std.specs.Prelude.{◌≡◌, ◌≢◌, ℕ, ◌≤◌, Bool, true, false, List, [], ◌∷◌, ◌++◌, All, Contains, filter, slice_get, Option, Some}
+use Rattle.std.specs.Prelude.{◌≡◌, ◌≢◌, ℕ, ◌≤◌, Bool, true, false, List, [], ◌∷◌, ◌++◌, All, Contains, filter, slice_get, Option, Some, None, ◌⊎◌}
 use Rattle.std.specs.List.{list_any}
 use Rattle.std.specs.List.Sorted.{IsPermutation}
 use Rattle.td_nets.specs.Netlist.{Netlist}
@@ -11,7 +11,7 @@ use Rattle.td_certificate.specs.declared.tree.Node.{Node}
 use Rattle.td_certificate.specs.declared.tree.Node.TheVariants as node
 use Rattle.td_certificate.specs.declared.certificate.Certificate.{Certificate}
 use Rattle.td_certificate.specs.Cubes.{zero_side, one_side}
-use Rattle.td_certificate.specs.Questions.{Question}
+use Rattle.td_certificate.specs.Questions.{Terms, Question}
 use Rattle.td_certificate.specs.Accepts.{Accepts}
 
 -- the cube that a certificate's admitted pairs lie in
@@ -21,6 +21,10 @@ pins_of c = c.question.admit.pins
 -- the question with these pins
 abbrev pub with_pins : Question → List Trit → Question
 with_pins question pins = record question { admit = record question.admit { pins = pins } }
+
+-- the question with these pins and terms
+abbrev pub whole_question : Question → List Trit → Option Terms → Question
+whole_question question pins terms = record question { admit = record question.admit { pins = pins }; terms = terms }
 
 -- a leaf that says that no admitted pair lies in its cube
 abbrev pub says_none : Node → Bool
@@ -75,6 +79,20 @@ pub record IsAlike (this that : Certificate) : Type 0 where
   pub flips : this.question.admit.flips ≡ that.question.admit.flips
   pub moments : this.question.moments ≡ that.question.moments
 
+-- a certificate tells no terms, or those of the whole
+abbrev pub AreMerged : Option Terms → Option Terms → Type 0
+AreMerged whole part = (part ≡ None) ⊎ (part ≡ whole)
+
+-- some certificate tells these terms
+pub record HasTerms (certificates : List Certificate) (terms : Option Terms) : Type 0 where
+  pub certificate : Certificate
+  pub among : Contains certificates certificate
+  pub terms_are : certificate.question.terms ≡ terms
+
+-- the certificate's two moments are one: its time is the worst delay
+abbrev pub IsClosed : Certificate → Type 0
+IsClosed c = c.high ≡ c.time
+
 -- some certificate has this time and this pair
 pub record HasPair (certificates : List Certificate) (time : ℕ) (pair : Pair) : Type 0 where
   pub certificate : Certificate
@@ -83,14 +101,18 @@ pub record HasPair (certificates : List Certificate) (time : ℕ) (pair : Pair) 
   pub pair_is : certificate.pair ≡ pair
 
 -- The certificates are joined into one with these pins. It is of the same circuit and question but
--- for the pins, its tree is theirs joined, and its time the greatest of theirs, with a pair of one
--- that has it.
+-- for the pins, and tells the terms that one of them tells; its tree is theirs joined, and its time
+-- the greatest of theirs, with a pair of one that has it.
 pub record IsJoined (certificates : List Certificate) (pins : List Trit) (whole : Certificate) : Type 0 where
   pub alike : All (IsAlike whole) certificates
   pub pins_are : pins_of whole ≡ pins
   pub tree : AreJoined whole.question.admit pins certificates whole.tree
   pub greatest : All (λ c. c.time ≤ whole.time) certificates
   pub pair : HasPair certificates whole.time whole.pair
+  pub terms : All (λ c. AreMerged whole.question.terms c.question.terms) certificates
+  pub told : HasTerms certificates whole.question.terms
+  pub closed : All IsClosed certificates
+  pub whole_closed : IsClosed whole
 
 -- ---- the least cube with the pins of all
 

@@ -2,8 +2,8 @@
 
 ghost use Rattle.std.specs.Prelude.{◌≡◌, ◌↔◌, IsTrue, IfErr, OnOk, All, slice_get, Some};
 ghost use Rattle.td_certificate.specs.Trees.{IsTree};
-ghost use Rattle.td_join.specs.Faults.{IsUnlike, IsUnlikeIn};
-ghost use Rattle.td_join.specs.Joining.{IsAlike};
+ghost use Rattle.td_join.specs.Faults.{IsUnlike, IsUnlikeIn, IsOpen, IsOpenIn};
+ghost use Rattle.td_join.specs.Joining.{IsAlike, IsClosed};
 ghost use Rattle.td_join.specs.Steps.{HasFit};
 
 use crate::fault::JoinFault;
@@ -54,6 +54,29 @@ pub fn all_alike(first: &Certificate, certificates: &[Certificate]) -> Result<()
 {
     for (place, other) in certificates.iter().enumerate() {
         alike(first, place, other)?;
+    }
+    Ok(())
+}
+
+/// Whether a certificate tells a worst delay. The error says that it doesn't.
+fn closed(place: usize, certificate: &Certificate) -> Result<(), JoinFault<usize>>
+    ensures closed { OnOk result (IsClosed certificate.now) }
+    ensures fault { IfErr result (IsOpen certificate.now place) }
+{
+    if certificate.high == certificate.time {
+        Ok(())
+    } else {
+        Err(JoinFault::Open(place))
+    }
+}
+
+/// Whether all certificates tell a worst delay. The error says which doesn't.
+pub fn all_closed(certificates: &[Certificate]) -> Result<(), JoinFault<usize>>
+    ensures closed { OnOk result (All IsClosed certificates.now) }
+    ensures fault { IfErr result (IsOpenIn certificates.now) }
+{
+    for (place, certificate) in certificates.iter().enumerate() {
+        closed(place, certificate)?;
     }
     Ok(())
 }

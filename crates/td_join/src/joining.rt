@@ -7,19 +7,20 @@ ghost use Rattle.td_certificate.specs.declared.certificate.Certificate.{Certific
 ghost use Rattle.td_certificate.specs.Accepts.{Accepts};
 ghost use Rattle.td_certificate.specs.Spelling.{HasSpelling};
 ghost use Rattle.td_certificate.specs.Trees.{IsTree};
-ghost use Rattle.td_join.specs.Joining.{pins_of, with_pins, IsAlike, IsJoined, hull};
+ghost use Rattle.td_join.specs.Joining.{pins_of, whole_question, AreMerged, HasTerms, IsClosed, IsAlike, IsJoined, hull};
 ghost use Rattle.td_join.specs.Faults.{IsInside, IsJoinFault};
 ghost use Rattle.td_join.specs.Steps.{HasFit};
 ghost use Rattle.td_join.specs.Stacks.{IsOfQuestion};
 
-use crate::alike::all_alike;
+use crate::alike::{all_alike, all_closed};
 use crate::fault::JoinFault;
 use crate::growing::joined_nodes;
 use crate::hulls::{all_inside, hull};
 use crate::nones::without_false_none;
 use crate::parts::numbered;
+use crate::terms::merged_terms;
 use std::alloc::{AllocError, Global};
-use td_certificate::{Certificate, Question, Tree};
+use td_certificate::{Certificate, Question, Terms, Tree};
 use td_domain::{Admit, Cube};
 
 /// The place of a certificate with the greatest time.
@@ -49,6 +50,9 @@ fn join_alike(
     requires trees { All (λ c. IsTree c.tree) certificates.items }
     requires fit { All HasFit certificates.items }
     requires within { All (λ c. IsInside question.admit.pins (pins_of c)) certificates.items }
+    requires terms { All (λ c. AreMerged question.terms c.question.terms) certificates.items }
+    requires told { HasTerms certificates.items question.terms }
+    requires closed { All IsClosed certificates.items }
     ensures joined { IfOk result (IsJoined certificates.items question.admit.pins) }
     ensures accepted { IfOk result (λ whole. (netlist : Netlist) → All (Accepts netlist) certificates.items → Accepts netlist whole) }
     ensures spelled { IfOk result (λ whole. All HasSpelling certificates.items → HasSpelling whole) }
@@ -67,6 +71,7 @@ fn join_alike(
         gates,
         question,
         time,
+        high: time,
         pair,
         tree: Tree::from_nodes(nodes),
     })
@@ -87,11 +92,16 @@ fn alike_first(certificates: &[Certificate]) -> Result<&Certificate, JoinFault<u
     Ok(first)
 }
 
-/// The question of the whole: that of the first certificate, with these pins. The error is out of
-/// memory.
-fn question_with(alloc: Global, first: &Certificate, pins: Cube) -> Result<Question, AllocError>
+/// The question of the whole: that of the first certificate, with these pins and terms. The error is
+/// out of memory.
+fn question_with(
+    alloc: Global,
+    first: &Certificate,
+    pins: Cube,
+    terms: Option<Terms>,
+) -> Result<Question, AllocError>
     requires { length pins ≡ length (pins_of first.now) }
-    ensures { IfOk result (λ question. question ≡ with_pins first.now.question pins) }
+    ensures { IfOk result (λ question. question ≡ whole_question first.now.question pins terms) }
 {
     let admit = first.question.admit();
     // For the prover: this call says that there are two pins for each input.
@@ -99,7 +109,11 @@ fn question_with(alloc: Global, first: &Certificate, pins: Cube) -> Result<Quest
     let held = Vec::from_slice(alloc, admit.held())?;
     let flips = admit.flips();
     let moments = Vec::from_slice(alloc, first.question.moments())?;
-    Ok(Question::new(Admit::new(pins, held, flips), moments))
+    let question = Question::new(Admit::new(pins, held, flips), moments);
+    match terms {
+        None => Ok(question),
+        Some(terms) => Ok(question.with_terms(terms)),
+    }
 }
 
 /// Joins certificates of parts of one question into one certificate, whose pins are these, two for
@@ -107,9 +121,10 @@ fn question_with(alloc: Global, first: &Certificate, pins: Cube) -> Result<Quest
 ///
 /// # Errors
 ///
-/// One that is there of: no certificate; one that isn't as the first; one whose pins aren't a part
-/// of these; a leaf of one that says that no admitted pair lies in its cube, where all pairs are
-/// admitted; what keeps them from being joined. `OutOfMemory` where a growth was refused.
+/// One that is there of: no certificate; one that isn't as the first; one that tells no worst delay;
+/// one whose pins aren't a part of these; two that tell other terms; a leaf of one that says that no
+/// admitted pair lies in its cube, where all pairs are admitted; what keeps them from being joined.
+/// `OutOfMemory` where a growth was refused.
 pub fn join_in(
     alloc: Global,
     certificates: Vec<Certificate>,
@@ -123,9 +138,11 @@ pub fn join_in(
     ensures fault { IfErr result (IsJoinFault certificates.items pins.now) }
 {
     let first = alike_first(&certificates)?;
+    all_closed(&certificates)?;
     all_inside(&certificates, pins)?;
     let gates = first.gates;
-    let question = question_with(alloc, first, pins.copy(alloc)?)?;
+    let terms = merged_terms(alloc, &certificates)?;
+    let question = question_with(alloc, first, pins.copy(alloc)?, terms)?;
     join_alike(alloc, certificates, gates, question)
 }
 

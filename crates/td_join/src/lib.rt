@@ -10,6 +10,7 @@ pub mod laws;
 mod nones;
 mod parts;
 mod steps;
+mod terms;
 
 pub use fault::JoinFault;
 pub use joining::{join, join_in};

@@ -79,7 +79,11 @@ fn only_tree(alloc: Global, group: Group) -> Step
 {
     let mut parts = group.parts;
     match parts.pop() {
-        Some(part) => Step::Leaf(part.certificate.tree.into_nodes()),
+        Some(part) => {
+            let certificate = part.certificate;
+            let tree = certificate.tree;
+            Step::Leaf(tree.into_nodes())
+        }
         None => Step::Leaf(Vec::new(alloc)),
     }
 }

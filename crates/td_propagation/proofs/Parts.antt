@@ -1,8 +1,9 @@
 -- Parts: clauses whose literals stand one after another, and one clause more.
-use Rattle.std.proofs.Common.{◌≡◌, ℕ, zero, suc, ◌+◌, ◌-◌, ◌<◌, ◌≤◌, List, [], ◌∷◌, ◌++◌, length, get_or, take, drop, Some, refl, sym, ◌∙◌, ap, subst, arith}
+use Rattle.std.proofs.Common.{◌≡◌, ℕ, zero, suc, ◌+◌, ◌-◌, ◌<◌, ◌≤◌, List, [], ◌∷◌, ◌++◌, length, get_or, take, drop, map, Some, refl, sym, ◌∙◌, ap, subst, arith}
 use Rattle.std.specs.Prelude.{slice_get, slice_range}
 use Rattle.std.proofs.lemmas.List.{take-append-le}
 use Rattle.td_propagation.specs.declared.literal.Literal.{Literal}
+use Rattle.td_propagation.specs.Literals.{literal_at}
 use Rattle.td_propagation.specs.Arenas.{parted, AreEnds, start_at}
 
 pub parted_length : (literals : List Literal) (start : ℕ) (ends : List ℕ) → length (parted literals start ends) ≡ length ends
@@ -111,3 +112,45 @@ pushed_ends literals literals' clause ends ends' len is more ended all =
     subst (λ (it : List Literal). AreEnds 0 ends' (length it)) (sym more)
     (subst (λ (it : List ℕ). AreEnds 0 it (length (literals ++ clause))) (sym (ended ∙ ap (λ n. ends ++ n ∷ []) (all ∙ ap (λ it. length it) more)))
     (ends_more literals clause 0 ends is))
+
+-- ---- literals as their numbers
+
+numbers_drop : (start : ℕ) (numbers : List ℕ) → map literal_at (drop start numbers) ≡ drop start (map literal_at numbers)
+numbers_drop zero numbers = refl
+numbers_drop (suc start) [] = refl
+numbers_drop (suc start) (number ∷ numbers) = numbers_drop start numbers
+
+numbers_take : (count : ℕ) (numbers : List ℕ) → map literal_at (take count numbers) ≡ take count (map literal_at numbers)
+numbers_take zero numbers = refl
+numbers_take (suc count) [] = refl
+numbers_take (suc count) (number ∷ numbers) = ap (λ rest. literal_at number ∷ rest) (numbers_take count numbers)
+
+pub numbers_range : (numbers : List ℕ) (start end : ℕ) → map literal_at (slice_range numbers start end) ≡ slice_range (map literal_at numbers) start end
+numbers_range numbers start end =
+    numbers_take (end - start) (drop start numbers) ∙ ap (λ rest. take (end - start) rest) (numbers_drop start numbers)
+
+pub numbers_length : (numbers : List ℕ) → length (map literal_at numbers) ≡ length numbers
+numbers_length [] = refl
+numbers_length (number ∷ numbers) = ap suc (numbers_length numbers)
+
+pub numbers_part : (numbers : List ℕ) (ends : List ℕ) (number d : ℕ) → number < length ends
+    → slice_get (parted (map literal_at numbers) 0 ends) number ≡ Some (map literal_at (slice_range numbers (start_at 0 ends number) (get_or ends number d)))
+numbers_part numbers ends number d low =
+    part_at (map literal_at numbers) 0 ends number d low
+    ∙ ap Some (sym (numbers_range numbers (start_at 0 ends number) (get_or ends number d)))
+
+-- what becomes of numbers and ends where the numbers of a clause come after them
+module _ (numbers numbers' : List ℕ) (clause : List Literal) (ends ends' : List ℕ) (end : ℕ) (are : AreEnds 0 ends (length numbers))
+    (more : map literal_at numbers' ≡ map literal_at numbers ++ clause) (ended : ends' ≡ ends ++ end ∷ []) (all : end ≡ length numbers') where
+  ends_are : AreEnds 0 ends (length (map literal_at numbers))
+  ends_are = subst (λ (n : ℕ). AreEnds 0 ends n) (sym (numbers_length numbers)) are
+
+  end_is : end ≡ length (map literal_at numbers')
+  end_is = all ∙ sym (numbers_length numbers')
+
+  pub numbers_pushed : parted (map literal_at numbers') 0 ends' ≡ parted (map literal_at numbers) 0 ends ++ clause ∷ []
+  numbers_pushed = pushed (map literal_at numbers) (map literal_at numbers') clause ends ends' end ends_are more ended end_is
+
+  pub numbers_pushed_ends : AreEnds 0 ends' (length numbers')
+  numbers_pushed_ends = subst (λ (n : ℕ). AreEnds 0 ends' n) (numbers_length numbers')
+      (pushed_ends (map literal_at numbers) (map literal_at numbers') clause ends ends' end ends_are more ended end_is)

@@ -1,6 +1,6 @@
 -- Soundness: what hints show is true wherever their clauses are.
 use Rattle.std.proofs.Common.{◌≡◌, ℕ, zero, suc, Bool, true, false, List, [], ◌∷◌, ◌++◌, ◌≤◌, ◌⊎◌, arith, length, get_or, replicate, Option, Some, None, refl, sym, ◌∙◌, ap, subst, inl, inr, get_or-set_other, get_or-set_same}
-use Rattle.std.specs.Prelude.{not, ◌||◌, ◌==◌, nat_lt, slice_get, if◌then◌else◌, ◌-◌}
+use Rattle.std.specs.Prelude.{not, ◌||◌, slice_get, if◌then◌else◌}
 use Rattle.std.proofs.lemmas.Bool.{cases_eq, cases_lt, cases_Bool, and_parts, eqb-true}
 use Rattle.std.proofs.lemmas.List.{get_or_past}
 use Rattle.std.proofs.lemmas.List.Elements.{All-push}
@@ -15,7 +15,7 @@ use Rattle.td_propagation.specs.declared.clauses.Outcome.TheVariants.{Shown}
 use Rattle.td_propagation.specs.Literals.{negation, signed, is_same, literal_true, clause_true, IsTrueUnder}
 use Rattle.td_propagation.specs.Marks.{no_mark, with_mark, mark_of, is_denied, denied, all_denied}
 use Rattle.td_propagation.specs.Propagating.{left_with, left_from, left_of}
-use Rattle.td_propagation.specs.Following.{hinted, hint_left, marks_after, follow_at, follow, shown_by, AreTrue}
+use Rattle.td_propagation.specs.Following.{hint_left, marks_after, follow_at, follow, shown_by, AreTrue}
 
 signed_same : (one other value : Bool) → signed one other ≡ true → signed one value ≡ signed other value
 signed_same true true value same = refl
@@ -168,17 +168,10 @@ after_agrees valuation marks (Some (One literal)) agrees holds =
 after_agrees valuation marks (Some Several) agrees holds = agrees
 
 hinted_true : (valuation : ℕ → Bool) (clauses : List (List Literal)) (hint : ℕ) (clause : List Literal) → AreTrue valuation clauses
-    → hinted clauses hint ≡ Some clause → IsTrueUnder valuation clause
-hinted_true valuation clauses hint clause holds is = go (hint == 0 || nat_lt (length clauses) hint) is
-  where
-    there : (place : ℕ) → slice_get clauses place ≡ Some clause → IsTrueUnder valuation clause
-    there place is =
-        subst (λ (it : List Literal). IsTrueUnder valuation it) (get_or_from_slice_get clauses place clause clause is)
-        (holds place clause (slice_get_within clauses place clause is))
-
-    go : (out : Bool) → (if out then None else slice_get clauses (length clauses - hint)) ≡ Some clause → IsTrueUnder valuation clause
-    go true is = cc
-    go false is = there (length clauses - hint) is
+    → slice_get clauses hint ≡ Some clause → IsTrueUnder valuation clause
+hinted_true valuation clauses hint clause holds is =
+    subst (λ (it : List Literal). IsTrueUnder valuation it) (get_or_from_slice_get clauses hint clause clause is)
+    (holds hint clause (slice_get_within clauses hint clause is))
 
 module _ (valuation : ℕ → Bool) (clauses : List (List Literal)) (all : AreTrue valuation clauses) where
   -- hints of true clauses never lead from literals that are false to a clause that is
@@ -186,14 +179,14 @@ module _ (valuation : ℕ → Bool) (clauses : List (List Literal)) (all : AreTr
   unfolding claims
   never_shown marks [] agrees is = cc
   never_shown marks (hint ∷ hints) agrees is =
-      let says = hint_claims valuation marks (hinted clauses hint) agrees (λ it there. hinted_true valuation clauses hint it all there) in
-      by_left (hint_left marks (hinted clauses hint)) says
-      (never_shown (marks_after marks (hint_left marks (hinted clauses hint))) hints
-      (after_agrees valuation marks (hint_left marks (hinted clauses hint)) agrees says)) is
+      let says = hint_claims valuation marks (slice_get clauses hint) agrees (λ it there. hinted_true valuation clauses hint it all there) in
+      by_left (hint_left marks (slice_get clauses hint)) says
+      (never_shown (marks_after marks (hint_left marks (slice_get clauses hint))) hints
+      (after_agrees valuation marks (hint_left marks (slice_get clauses hint)) agrees says)) is
     where
       by_left : (left : Option Left) → LeftClaims valuation left
-          → (follow clauses (marks_after marks (hint_left marks (hinted clauses hint))) hints ≡ Shown → ⊥)
-          → follow_at left (follow clauses (marks_after marks (hint_left marks (hinted clauses hint))) hints) ≡ Shown → ⊥
+          → (follow clauses (marks_after marks (hint_left marks (slice_get clauses hint))) hints ≡ Shown → ⊥)
+          → follow_at left (follow clauses (marks_after marks (hint_left marks (slice_get clauses hint))) hints) ≡ Shown → ⊥
       by_left None says rest is = cc
       by_left (Some Nothing) says rest is = cc
       by_left (Some (One literal)) says rest is = rest is

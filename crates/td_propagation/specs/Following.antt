@@ -1,5 +1,5 @@
 -- Following: when hints show a clause.
-use Rattle.std.specs.Prelude.{ℕ, ◌-◌, ◌==◌, nat_lt, Bool, List, [], ◌∷◌, length, slice_get, replicate, Option, Some, None, if◌then◌else◌, ◌||◌}
+use Rattle.std.specs.Prelude.{ℕ, Bool, List, [], ◌∷◌, slice_get, replicate, Option, Some, None}
 use Rattle.std.specs.List.{All}
 use Rattle.td_propagation.specs.declared.literal.Literal.{Literal}
 use Rattle.td_propagation.specs.declared.left.Left.{Left}
@@ -10,11 +10,6 @@ use Rattle.td_propagation.specs.declared.clauses.Outcome.TheVariants.{Shown, NoS
 use Rattle.td_propagation.specs.Literals.{negation, IsTrueUnder}
 use Rattle.td_propagation.specs.Marks.{no_mark, denied, all_denied}
 use Rattle.td_propagation.specs.Propagating.{left_of}
-
--- the clause that a hint names: 1 is the last one, 2 the one before
-abbrev pub hinted : List (List Literal) → ℕ → Option (List Literal)
-hinted clauses hint =
-    if hint == 0 || nat_lt (length clauses) hint then None else slice_get clauses (length clauses - hint)
 
 -- what a hint leaves, if it is a clause's
 abbrev pub hint_left : List Mark → Option (List Literal) → Option Left
@@ -34,13 +29,13 @@ follow_at (Some Nothing) rest = Shown
 follow_at (Some (One literal)) rest = rest
 follow_at (Some Several) rest = HintOpen
 
--- Where hints lead, with these literals taken to be false: the first that leaves nothing shows it,
--- and each before leaves one.
+-- Where hints, which are numbers of clauses, lead, with these literals taken to be false: the first
+-- that leaves nothing shows it, and each before leaves one.
 abbrev pub follow : List (List Literal) → List Mark → List ℕ → Outcome
 follow clauses marks [] = NotShown
 follow clauses marks (hint ∷ hints) =
-    follow_at (hint_left marks (hinted clauses hint))
-    (follow clauses (marks_after marks (hint_left marks (hinted clauses hint))) hints)
+    follow_at (hint_left marks (slice_get clauses hint))
+    (follow clauses (marks_after marks (hint_left marks (slice_get clauses hint))) hints)
 
 -- where hints lead when the literals are taken to be false
 abbrev pub shown_by : List (List Literal) → ℕ → List Literal → List ℕ → Outcome

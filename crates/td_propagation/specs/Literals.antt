@@ -1,6 +1,10 @@
 -- Literals and clauses: when they are true.
-use Rattle.std.specs.Prelude.{◌≡◌, ℕ, ◌==◌, Bool, true, false, not, ◌&&◌, ◌||◌, List, [], ◌∷◌, if◌then◌else◌}
+use Rattle.std.specs.Prelude.{◌≡◌, ℕ, ◌/◌, ◌%◌, ◌==◌, Bool, true, false, not, ◌&&◌, ◌||◌, List, [], ◌∷◌, if◌then◌else◌}
 use Rattle.td_propagation.specs.declared.literal.Literal.{Literal}
+
+-- a literal's number is twice that of its variable, and one more for its negation
+abbrev pub literal_at : ℕ → Literal
+literal_at number = record { variable = number / 2; positive = number % 2 == 0 }
 
 abbrev pub negation : Literal → Literal
 negation literal = record { variable = literal.variable; positive = not literal.positive }

@@ -1,7 +1,7 @@
 //! Clauses by number.
 
-ghost use Rattle.std.specs.Prelude.{◌≡◌, length, IfOk, MatchOption, None, Some};
-ghost use Rattle.td_propagation.specs.Following.{hinted, follow};
+ghost use Rattle.std.specs.Prelude.{◌≡◌, length, IfOk};
+ghost use Rattle.td_propagation.specs.Following.{follow};
 
 use crate::arena::Arena;
 use crate::denied::Denied;
@@ -26,23 +26,13 @@ pub struct Clauses {
     denied: Denied,
 }
 
-// The clause that a hint names: 1 is the last one, 2 the one before.
-fn hinted(clauses: &Arena, hint: u64) -> Option<&[Literal]>
-    ensures { MatchOption result (hinted clauses.now hint ≡ None) (λ clause. hinted clauses.now hint ≡ Some clause.now) }
-{
-    if hint == 0 || hint > clauses.len() as u64 {
-        return None;
-    }
-    clauses.get(clauses.len() - hint as usize)
-}
-
-// Follows the hints. The error is out of memory.
+// Follows the hints, which are numbers of clauses. The error is out of memory.
 fn follow(clauses: &Arena, denied: &mut Denied, hints: &[u64]) -> Result<Outcome, AllocError>
     ensures outcome { IfOk result (λ outcome. outcome ≡ follow clauses.now denied.old.marks.items hints.now) }
     ensures len { length denied.new.marks.items ≡ length denied.old.marks.items }
 {
     for hint in hints {
-        let Some(clause) = hinted(clauses, *hint) else {
+        let Some(clause) = clauses.get(*hint as usize) else {
             return Ok(Outcome::NoSuchHint);
         };
         match denied.left(clause) {
@@ -80,7 +70,8 @@ impl Clauses {
         self.denied.add_variable()
     }
 
-    /// Where the hints lead when the literals are taken to be false. The error is out of memory.
+    /// Where the hints, which are numbers of clauses, lead when the literals are taken to be false.
+    /// The error is out of memory.
     pub fn show(&mut self, literals: &[Literal], hints: &[u64]) -> Result<Outcome, AllocError>
         ensures outcome { IfOk result (λ outcome. outcome ≡ shown_by (list_of self.old) (variables_of self.old) literals.now hints.now) }
         ensures list { list_of self.new ≡ list_of self.old }

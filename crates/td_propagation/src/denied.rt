@@ -1,7 +1,8 @@
 //! Literals that are taken to be false.
 
-ghost use Rattle.std.specs.Prelude.{◌≡◌, ℕ, ◌<◌, ◌++◌, ◌∷◌, [], length, get_or, IfOk, OnOk, OnErr, replicate};
+ghost use Rattle.std.specs.Prelude.{◌≡◌, ◌↔◌, IsTrue, ℕ, ◌<◌, ◌++◌, ◌∷◌, [], length, map, get_or, IfOk, OnOk, OnErr, replicate};
 ghost use Rattle.std.specs.List.{All, Contains};
+ghost use Rattle.td_propagation.specs.Literals.{literal_at};
 ghost use Rattle.td_propagation.specs.Marks.{no_mark, with_mark, mark_of, is_denied, denied, all_denied};
 ghost use Rattle.td_propagation.specs.Propagating.{left_of};
 
@@ -33,6 +34,18 @@ impl Mark {
         ensures { result ≡ no_mark }
     {
         Mark::Neither
+    }
+
+    /// Whether nothing is taken.
+    fn is_none(self) -> bool
+        ensures { IsTrue result ↔ (self ≡ no_mark) }
+    {
+        match self {
+            Mark::Neither => true,
+            Mark::Negative => false,
+            Mark::Positive => false,
+            Mark::Both => false,
+        }
     }
 
     /// Whether the literal with this sign is taken to be false.
@@ -106,14 +119,15 @@ impl Denied {
         }
     }
 
-    /// What is left of the clause.
-    pub fn left(&self, clause: &[Literal]) -> Left
-        ensures { result ≡ left_of self.now.marks.items clause.now }
+    /// What is left of the clause whose literals have these numbers.
+    pub fn left(&self, clause: &[u32]) -> Left
+        ensures { result ≡ left_of self.now.marks.items (map literal_at clause.now) }
     {
         let mut left = Left::Nothing;
-        for literal in clause {
-            if !self.has(*literal) {
-                left = left.with(*literal);
+        for number in clause {
+            let literal = Literal::numbered(*number);
+            if !self.has(literal) {
+                left = left.with(literal);
             }
         }
         left
@@ -136,7 +150,9 @@ impl Denied {
     {
         let place = literal.variable as usize;
         if place < self.marks.len() {
-            self.trail.push(literal.variable)?;
+            if self.marks[place].is_none() {
+                self.trail.push(literal.variable)?;
+            }
             self.marks[place] = self.marks[place].with(literal.positive);
         }
         Ok(())

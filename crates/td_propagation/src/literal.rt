@@ -8,8 +8,32 @@ pub struct Literal {
 }
 
 impl Literal {
-    ghost use Rattle.std.specs.Prelude.{◌≡◌};
-    ghost use Rattle.td_propagation.specs.Literals.{negation, is_same};
+    ghost use Rattle.std.specs.Prelude.{◌≡◌, IfSome};
+    ghost use Rattle.td_propagation.specs.Literals.{literal_at, negation, is_same};
+
+    /// The literal with a number: twice that of its variable, and one more for a negation.
+    pub fn numbered(number: u32) -> Literal
+        ensures { result ≡ literal_at number }
+    {
+        Literal {
+            variable: number / 2,
+            positive: number % 2 == 0,
+        }
+    }
+
+    /// The number of this literal, if it is less than 2^32.
+    pub fn number(self) -> Option<u32>
+        ensures { IfSome result (λ number. literal_at number ≡ self) }
+    {
+        if self.variable >= 2_147_483_648 {
+            return None;
+        }
+        if self.positive {
+            Some(2 * self.variable)
+        } else {
+            Some(2 * self.variable + 1)
+        }
+    }
 
     /// The literal that is true where this one is false.
     pub fn negation(self) -> Literal

@@ -1,5 +1,5 @@
 -- Lists: good lines, and one more.
-use Rattle.std.proofs.Common.{◌≡◌, ℕ, zero, suc, ◌+◌, List, [], ◌∷◌, ◌++◌, length, take, map, refl, arith, ap, sym, ◌∙◌, subst, Some}
+use Rattle.std.proofs.Common.{◌≡◌, ℕ, zero, suc, ◌+◌, List, [], ◌∷◌, ◌++◌, take, map, refl, arith, ap, sym, ◌∙◌, subst, Some}
 use Rattle.std.specs.Prelude.{slice_get}
 use Rattle.td_circuit.specs.Numbering.{Numbered}
 use Rattle.td_domain.specs.declared.cubes.Trit.{Trit}

@@ -1,14 +1,12 @@
 -- Steps: good lines, one after another, keep what is true of the runs.
-use Rattle.std.proofs.Common.{◌≡◌, ℕ, ◌*◌, Bool, true, false, List, [], ◌∷◌, ◌++◌, length, refl, ap, subst, sym, ◌∙◌, arith}
-use Rattle.td_circuit.specs.Settings.{Setting, AreMoments}
-use Rattle.td_circuit.specs.Numbering.{Numbered, setting, IsNumbering}
+use Rattle.std.proofs.Common.{◌≡◌, true, false, List, [], ◌∷◌, ◌++◌, length, refl, ap, subst, arith}
+use Rattle.td_circuit.specs.Settings.{Setting}
+use Rattle.td_circuit.specs.Numbering.{Numbered, setting}
 use Rattle.td_domain.specs.declared.cubes.Trit.{Trit}
-use Rattle.td_domain.specs.Admits.{Admitted}
 use Rattle.td_propagation.specs.declared.literal.Literal.{Literal}
 use Rattle.td_spans.specs.declared.times.Times.{Times}
 use Rattle.td_spans.specs.declared.variable.Variable.{Variable}
 use Rattle.td_spans.specs.Conditions.{Asked}
-use Rattle.td_spans.specs.Lowering.{latest_of}
 use Rattle.td_spans.specs.Signals.{first_times}
 use Rattle.td_spans.specs.Refuting.{Refutes}
 use Rattle.td_spans.specs.Laws.{IsAsked}

@@ -3,3 +3,4 @@ pub mod Doing
 pub mod Lowers
 pub mod Refuting
 pub mod Whole
+pub mod Numberings

@@ -1,8 +1,9 @@
 -- Lines: what their numbers say.
-use Rattle.std.specs.Prelude.{◌≡◌, ℕ, ◌/◌, ◌%◌, ◌==◌, nat_lt, nat_le, Bool, true, false, ◌&&◌, List, [], ◌∷◌, length, map, take, drop, Option, Some, None, if◌then◌else◌}
+use Rattle.std.specs.Prelude.{ℕ, ◌==◌, nat_lt, nat_le, Bool, true, false, ◌&&◌, List, [], ◌∷◌, length, map, take, drop, Option, Some, None, if◌then◌else◌}
 use Rattle.std.specs.List.{list_all}
 use Rattle.td_circuit.specs.Numbering.{Numbered}
 use Rattle.td_propagation.specs.declared.literal.Literal.{Literal}
+pub use Rattle.td_propagation.specs.Literals.{literal_at}
 use Rattle.td_spans.specs.declared.reason.Reason.{Reason}
 use Rattle.td_spans.specs.declared.reason.Reason.TheVariants as reason
 use Rattle.td_spans.specs.declared.variable.Variable.{Variable}
@@ -37,10 +38,6 @@ pub data Deed : Type 0 where
 -- whether it is the number of a literal
 abbrev pub is_literal : ℕ → Bool
 is_literal number = nat_lt number 8589934592
-
--- a literal's number is twice that of its variable, and one more for its negation
-abbrev pub literal_at : ℕ → Literal
-literal_at number = record { variable = number / 2; positive = number % 2 == 0 }
 
 abbrev pub naming : Reason → List ℕ → Deed
 naming why numbers = if list_all is_literal numbers then Naming why (map literal_at numbers) else NoDeed

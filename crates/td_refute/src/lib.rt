@@ -10,4 +10,5 @@ mod searching;
 mod spelling;
 
 pub use effort::Effort;
-pub use refuting::{Refuted, refute};
+pub use refuting::{Refuted, Sought, refute};
+pub use td_span_search::Ending;

@@ -1,6 +1,6 @@
 //! What a search answers.
 
-ghost use Rattle.std.specs.Prelude.{◌≡◌, ◌≤◌, length, IfOk, IfSome};
+ghost use Rattle.std.specs.Prelude.{◌≡◌, ◌≤◌, length, IfOk, IfSome, None};
 ghost use Rattle.td_circuit.specs.Numbering.{setting};
 ghost use Rattle.td_domain.specs.Admits.{IsAdmitted};
 ghost use Rattle.td_domain.specs.Worst.{IsWorst};
@@ -12,12 +12,13 @@ use crate::effort::Effort;
 use crate::pairs::pair_with;
 use crate::searching::{Findings, search};
 use std::alloc::{AllocError, Global};
+use std::thread::Threads;
 use td_circuit::Circuit;
 use td_domain::{Admit, Pair};
 use td_event_sim::{Scratch, delay_of};
 use td_lead::Timed;
 use td_refutation::{Refusal, Step, refuted};
-use td_span_search::PairBits;
+use td_span_search::{Ending, PairBits};
 
 /// The most gates of a circuit that is searched.
 const MOST_GATES: usize = 60_000;
@@ -29,37 +30,69 @@ pub struct Refuted {
     pub steps: Vec<Step>,
 }
 
+/// What a search answers: the least bound that was shown, if one was, and why it ended.
+#[derive(Drop)]
+pub struct Sought {
+    pub refuted: Option<Refuted>,
+    pub ending: Ending,
+}
+
+impl Sought {
+    // Nothing was shown.
+    fn nothing(ending: Ending) -> Sought
+        ensures { result.refuted ≡ None }
+    {
+        Sought {
+            refuted: None,
+            ending,
+        }
+    }
+}
+
 /// Searches for pairs that are later than a known one, and for a refutation of later ones still. A
 /// later pair takes the place of the known one. Answers the least bound that was shown; none where
 /// the circuit has no gates or is too large, where the stop was set before, or where the lines are
-/// refused. The error is out of memory; a later pair that was found is kept then too.
+/// refused. Several workers search in threads of their own, where they can be started. The error is
+/// out of memory; a later pair that was found is kept then too.
 ///
 /// Where the bound is the best pair's delay, that is the worst delay.
-pub fn refute(
+pub fn refute<R: Threads + Sync>(
+    rt: &R,
     alloc: Global,
     scratch: &mut Scratch,
     circuit: &Circuit,
     admit: &Admit,
     best: &mut Timed,
     effort: Effort<'_>,
-) -> Result<Option<Refuted>, AllocError>
+) -> Result<Sought, AllocError>
     requires scratch { IsFor circuit.now scratch.old }
     requires held { length admit.now.held ≡ length circuit.now.netlist.inputs }
     requires best { IsTimed (setting circuit.now) admit.now best.old }
     ensures best { IsTimed (setting circuit.now) admit.now best.new }
     ensures no_less { best.old.time ≤ best.new.time }
-    ensures shown { IfOk result (λ found. IfSome found (IsShown (setting circuit.now) admit.now)) }
-    ensures worst { IfOk result (λ found. IfSome found (λ refuted. refuted.bound ≤ best.new.time → IsWorst (setting circuit.now) admit.now best.new.time)) }
+    ensures shown { IfOk result (λ sought. IfSome sought.refuted (IsShown (setting circuit.now) admit.now)) }
+    ensures worst { IfOk result (λ sought. IfSome sought.refuted (λ refuted. refuted.bound ≤ best.new.time → IsWorst (setting circuit.now) admit.now best.new.time)) }
     ensures scratch { IsFor circuit.now scratch.new }
 {
     let gates = circuit.gates().len();
-    if gates == 0 || gates > MOST_GATES || effort.stop.is_set() {
-        return Ok(None);
+    if gates == 0 {
+        return Ok(Sought::nothing(Ending::Closed));
     }
-    let Findings { pair, steps } = search(alloc, circuit, admit, best.time, effort)?;
+    if gates > MOST_GATES {
+        return Ok(Sought::nothing(Ending::Lost));
+    }
+    if effort.stop.is_set() {
+        return Ok(Sought::nothing(Ending::Stop));
+    }
+    let Findings {
+        pair,
+        steps,
+        ending,
+    } = search(rt, alloc, circuit, admit, best.time, effort)?;
     keep_found(alloc, scratch, circuit, admit, &pair, best)?;
     let steps = steps?;
-    show(alloc, circuit, admit, best, steps)
+    let refuted = show(alloc, circuit, admit, best, steps)?;
+    Ok(Sought { refuted, ending })
 }
 
 // Measures the pair that a search found, and keeps it where it is later. The error is out of

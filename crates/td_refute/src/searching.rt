@@ -5,24 +5,27 @@ ghost use Rattle.std.specs.Prelude.{◌≡◌, length};
 use crate::effort::Effort;
 use crate::spelling::steps_of;
 use std::alloc::{AllocError, Global};
+use std::thread::Threads;
 use td_circuit::Circuit;
 use td_domain::Admit;
 use td_refutation::Step;
-use td_span_search::{Admitted, FOREVER, Limits, Network, PairBits, Search, Times};
+use td_span_search::{Admitted, Ending, FOREVER, Limits, Network, PairBits, Search, Team, Times};
 use td_spans::first_times;
 
 /// What a search found: the latest pair, and lines that are to show the least bound, unless memory
-/// ran out.
+/// ran out; and why it ended.
 #[derive(Drop)]
 pub struct Findings {
     pub pair: PairBits,
     pub steps: Result<Vec<Step>, AllocError>,
+    pub ending: Ending,
 }
 
 /// Searches for admitted pairs that are later than a known one, by its delay. It begins with a pair
 /// of its own, whose levels its solver tries first: near a late pair later ones are rare. The error
 /// is out of memory before anything was found.
-pub fn search(
+pub fn search<R: Threads + Sync>(
+    rt: &R,
     alloc: Global,
     circuit: &Circuit,
     admit: &Admit,
@@ -36,26 +39,31 @@ pub fn search(
     let times = times_in(alloc, circuit, admit)?;
     let limits = Limits {
         known,
+        words: effort.words,
+        alone: effort.alone,
         ..Limits::of_work(effort.work)
     };
-    let mut search = Search::new(alloc, &network, &admitted, &times, limits, effort.stop)?;
-    let ended = search.run();
-    let pair = search.pair().copy(alloc)?;
+    let search = Search::new(alloc, &network, &admitted, &times, limits, effort.stop)?;
+    let mut team = Team::new(search, effort.workers as usize)?;
+    let ended = team.run(rt);
+    let pair = team.pair().copy(alloc)?;
+    let ending = team.ending().unwrap_or(Ending::Memory);
     let steps = match ended {
-        Ok(()) => steps_in(alloc, circuit, &search),
+        Ok(()) => steps_in(alloc, circuit, team),
         Err(error) => Err(error),
     };
-    Ok(Findings { pair, steps })
+    Ok(Findings {
+        pair,
+        steps,
+        ending,
+    })
 }
 
 // The lines of the least bound that is known.
-fn steps_in(
-    alloc: Global,
-    circuit: &Circuit,
-    search: &Search<'_>,
-) -> Result<Vec<Step>, AllocError> {
-    let refutation = search.refutation(search.top())?;
-    steps_of(alloc, circuit, &refutation)
+fn steps_in(alloc: Global, circuit: &Circuit, team: Team<'_>) -> Result<Vec<Step>, AllocError> {
+    let top = team.top();
+    let refutation = team.into_refutation(top)?;
+    steps_of(alloc, circuit, refutation)
 }
 
 // When the nets may change in runs of admitted pairs.

@@ -12,15 +12,20 @@ use td_span_search::{Meaning, Refutation, Span};
 pub fn steps_of(
     alloc: Global,
     circuit: &Circuit,
-    refutation: &Refutation,
+    refutation: Refutation,
 ) -> Result<Vec<Step>, AllocError> {
     let names = Names::new(alloc, circuit)?;
     let mut steps = Vec::new(alloc);
-    for variable in &refutation.variables {
+    let Refutation {
+        variables,
+        steps: found,
+        ..
+    } = refutation;
+    for variable in &variables {
         steps.push(variable_line(alloc, &names, *variable)?)?;
     }
-    for step in &refutation.steps {
-        steps.push(step_line(alloc, &names, step)?)?;
+    for step in found {
+        steps.push(step_line(alloc, &names, &step)?)?;
     }
     Ok(steps)
 }

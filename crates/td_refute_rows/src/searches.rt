@@ -9,6 +9,7 @@ ghost use Rattle.td_lead.specs.Timed.{IsTimed};
 use crate::questions::{Question, admit_of, worst};
 use std::alloc::{AllocError, Global};
 use std::test::*;
+use std::thread::Threads;
 use td_circuit::{Circuit, build};
 use td_domain::{Admit, Pair};
 use td_event_sim::{Scratch, delay_of};
@@ -62,7 +63,8 @@ struct Found {
 }
 
 /// What a search finds from an admitted pair on.
-fn found_from(
+fn found_from<R: Threads + Sync>(
+    rt: &R,
     alloc: Global,
     circuit: &Circuit,
     admit: &Admit,
@@ -75,7 +77,8 @@ fn found_from(
     requires start { IsTimed (setting circuit.now) admit.now start }
 {
     let mut best = start;
-    match refute(alloc, scratch, circuit, admit, &mut best, effort)? {
+    let sought = refute(rt, alloc, scratch, circuit, admit, &mut best, effort)?;
+    match sought.refuted {
         Some(refuted) => Ok(Some(Found {
             low: best.time,
             high: refuted.bound,
@@ -86,7 +89,8 @@ fn found_from(
 }
 
 /// What a search finds among the admitted pairs of a circuit, if there are some.
-fn found_in(
+fn found_in<R: Threads + Sync>(
+    rt: &R,
     alloc: Global,
     circuit: &Circuit,
     admit: &Admit,
@@ -101,7 +105,7 @@ fn found_in(
     let pair = representative(alloc, pins, admit)?;
     let mut scratch = Scratch::new(alloc, circuit)?;
     let start = timed(&mut scratch, circuit, admit, pair)?;
-    found_from(alloc, circuit, admit, &mut scratch, start, effort)
+    found_from(rt, alloc, circuit, admit, &mut scratch, start, effort)
 }
 
 /// An admitted pair with its delay.
@@ -123,20 +127,26 @@ fn timed(
 }
 
 /// What a search finds among all pairs of a circuit.
-fn found_in_all(
+fn found_in_all<R: Threads + Sync>(
+    rt: &R,
     alloc: Global,
     circuit: &Circuit,
     effort: Effort<'_>,
 ) -> Result<Option<Found>, AllocError> {
     let _few = circuit.gates();
     let admit = Admit::all(alloc, circuit.input_count())?;
-    found_in(alloc, circuit, &admit, effort)
+    found_in(rt, alloc, circuit, &admit, effort)
 }
 
 /// What a search finds among all pairs of the circuit of a text.
-fn found_in_text(alloc: Global, text: &str, effort: Effort<'_>) -> Option<Found> {
+fn found_in_text<R: Threads + Sync>(
+    rt: &R,
+    alloc: Global,
+    text: &str,
+    effort: Effort<'_>,
+) -> Option<Found> {
     let circuit = circuit_of(alloc, text)?;
-    match found_in_all(alloc, &circuit, effort) {
+    match found_in_all(rt, alloc, &circuit, effort) {
         Ok(found) => found,
         Err(_) => None,
     }
@@ -149,25 +159,50 @@ fn no_effort(stop: &Stop) -> Effort<'_> {
     effort
 }
 
-/// Whether a search finds the worst delay of the pairs that are asked about, and shows it.
-fn agrees(alloc: Global, circuit: &Circuit, question: Question<'_>) -> Result<bool, AllocError> {
+/// The effort of several workers from the first question on.
+fn of_workers(stop: &Stop, workers: u32) -> Effort<'_> {
+    let mut effort = Effort::until(stop);
+    effort.workers = workers;
+    effort.alone = 0;
+    effort
+}
+
+/// Whether one worker, and two, find the worst delay of the pairs that are asked about, and show it.
+fn agrees<R: Threads + Sync>(
+    rt: &R,
+    alloc: Global,
+    circuit: &Circuit,
+    question: Question<'_>,
+) -> Result<bool, AllocError> {
     let Some(admit) = admit_of(alloc, circuit, question)? else {
         return Ok(false);
     };
     let wanted = worst(alloc, circuit, &admit)?;
-    match found_in(alloc, circuit, &admit, Effort::until(&Stop::never()))? {
-        Some(found) => Ok((found.low, found.high) == (wanted, wanted)),
-        None => Ok(false),
+    let stop = Stop::never();
+    for workers in 1..3 {
+        let is_right = match found_in(rt, alloc, circuit, &admit, of_workers(&stop, workers))? {
+            Some(found) => (found.low, found.high) == (wanted, wanted),
+            None => false,
+        };
+        if !is_right {
+            return Ok(false);
+        }
     }
+    Ok(true)
 }
 
 /// Whether searches agree with all pairs for each of these questions about the circuit of a text.
-fn all_agree(alloc: Global, text: &str, questions: &[Question<'_>]) -> Result<bool, AllocError> {
+fn all_agree<R: Threads + Sync>(
+    rt: &R,
+    alloc: Global,
+    text: &str,
+    questions: &[Question<'_>],
+) -> Result<bool, AllocError> {
     let Some(circuit) = circuit_of(alloc, text) else {
         return Ok(false);
     };
     for question in questions {
-        if !agrees(alloc, &circuit, *question)? {
+        if !agrees(rt, alloc, &circuit, *question)? {
             return Ok(false);
         }
     }
@@ -189,7 +224,7 @@ fn questions_beside_all_pairs(rt: HostRuntime) -> Result<(), Fail> {
         asked("01....", "...", 1),
         asked("01..0.", "...", 2),
     ];
-    assert!(rt; all_agree(alloc, FALSE_WAY, &three)?);
+    assert!(&rt; all_agree(&rt, alloc, FALSE_WAY, &three)?);
     let two = [
         asked("....", "..", 2),
         asked("....", "..", 1),
@@ -197,46 +232,66 @@ fn questions_beside_all_pairs(rt: HostRuntime) -> Result<(), Fail> {
         asked("10..", "..", 1),
         asked("0..1", "..", 2),
     ];
-    assert!(rt; all_agree(alloc, WIDE, &two)?);
-    assert!(rt; all_agree(alloc, RECONVERGENT, &two)?);
+    assert!(&rt; all_agree(&rt, alloc, WIDE, &two)?);
+    assert!(&rt; all_agree(&rt, alloc, RECONVERGENT, &two)?);
     Ok(())
 }
 
 #[test]
 fn a_pulse_that_is_swallowed(rt: HostRuntime) -> Result<(), Fail> {
-    let found = found_in_text(rt.alloc(), PULSE, Effort::until(&Stop::never())).ok_or("found")?;
-    assert_eq!(rt; (found.low, found.high), (0, 0));
-    assert!(rt; found.steps > 0);
+    let found = found_in_text(&rt, rt.alloc(), PULSE, Effort::until(&Stop::never())).ok_or(
+        "found",
+    )?;
+    assert_eq!(&rt; (found.low, found.high), (0, 0));
+    assert!(&rt; found.steps > 0);
     Ok(())
 }
 
 #[test]
 fn a_way_that_is_false(rt: HostRuntime) -> Result<(), Fail> {
-    let found = found_in_text(rt.alloc(), FALSE_WAY, Effort::until(&Stop::never())).ok_or("found")?;
-    assert_eq!(rt; (found.low, found.high), (9, 9));
-    assert!(rt; found.steps > 0);
+    let found = found_in_text(&rt, rt.alloc(), FALSE_WAY, Effort::until(&Stop::never())).ok_or(
+        "found",
+    )?;
+    assert_eq!(&rt; (found.low, found.high), (9, 9));
+    assert!(&rt; found.steps > 0);
     Ok(())
 }
 
 #[test]
 fn a_wide_gate(rt: HostRuntime) -> Result<(), Fail> {
-    let found = found_in_text(rt.alloc(), WIDE, Effort::until(&Stop::never())).ok_or("found")?;
-    assert_eq!(rt; found.low, found.high);
+    let found = found_in_text(&rt, rt.alloc(), WIDE, Effort::until(&Stop::never())).ok_or("found")?;
+    assert_eq!(&rt; found.low, found.high);
     Ok(())
 }
 
 #[test]
 fn without_work_the_bound_is_that_of_the_first_times(rt: HostRuntime) -> Result<(), Fail> {
-    let found = found_in_text(rt.alloc(), FALSE_WAY, no_effort(&Stop::never())).ok_or("found")?;
-    assert_eq!(rt; (found.high, found.steps), (14, 0));
+    let found = found_in_text(&rt, rt.alloc(), FALSE_WAY, no_effort(&Stop::never())).ok_or(
+        "found",
+    )?;
+    assert_eq!(&rt; (found.high, found.steps), (14, 0));
     Ok(())
 }
 
 #[test]
 fn an_answer_is_the_same_again(rt: HostRuntime) -> Result<(), Fail> {
-    let first = found_in_text(rt.alloc(), FALSE_WAY, Effort::until(&Stop::never())).ok_or("found")?;
-    let again = found_in_text(rt.alloc(), FALSE_WAY, Effort::until(&Stop::never())).ok_or("found")?;
-    assert_eq!(rt; first, again);
+    let first = found_in_text(&rt, rt.alloc(), FALSE_WAY, Effort::until(&Stop::never())).ok_or(
+        "found",
+    )?;
+    let again = found_in_text(&rt, rt.alloc(), FALSE_WAY, Effort::until(&Stop::never())).ok_or(
+        "found",
+    )?;
+    assert_eq!(&rt; first, again);
+    Ok(())
+}
+
+#[test]
+fn workers_find_the_same_again(rt: HostRuntime) -> Result<(), Fail> {
+    let stop = Stop::never();
+    let first = found_in_text(&rt, rt.alloc(), FALSE_WAY, of_workers(&stop, 3)).ok_or("found")?;
+    let again = found_in_text(&rt, rt.alloc(), FALSE_WAY, of_workers(&stop, 3)).ok_or("found")?;
+    assert_eq!(&rt; first, again);
+    assert!(&rt; first.steps > 0);
     Ok(())
 }
 
@@ -244,7 +299,7 @@ fn an_answer_is_the_same_again(rt: HostRuntime) -> Result<(), Fail> {
 fn a_stop_that_is_set_ends_it_at_once(rt: HostRuntime) -> Result<(), Fail> {
     let stop = Stop::new();
     stop.set();
-    let found = found_in_text(rt.alloc(), FALSE_WAY, Effort::until(&stop));
-    assert_eq!(rt; found, None);
+    let found = found_in_text(&rt, rt.alloc(), FALSE_WAY, Effort::until(&stop));
+    assert_eq!(&rt; found, None);
     Ok(())
 }

@@ -3,7 +3,7 @@
 ghost use Rattle.std.specs.Prelude.{◌≡◌, ◌++◌, IfOk, IfErr, OnOk};
 ghost use Rattle.td_certificate.specs.Spelling.{version_in, question_text};
 ghost use Rattle.td_checker.specs.declared.verdict.Verdict.TheVariants as Reported;
-ghost use Rattle.td_report.specs.CheckReports.{accepted_text, refusing_text, refused_text, place_text, verdict_text, ending_of, IsCheckReport};
+ghost use Rattle.td_report.specs.CheckReports.{accepted_line, accepted_text, refusing_text, refused_text, place_text, verdict_text, ending_of, IsCheckReport};
 ghost use Rattle.td_report.specs.Outcomes.{HasNoVerdict, refusal_of};
 
 use crate::refusal::Refusal;
@@ -86,8 +86,20 @@ fn report_of(alloc: Global, verdict: Verdict, certificate: &Certificate) -> Resu
 fn accepted(alloc: Global, text: &mut Text, certificate: &Certificate) -> Result<(), AllocError>
     ensures { OnOk result (text.new ≡ text.old ++ accepted_text certificate.now) }
 {
-    text.number_between(b"accepted ", certificate.time, b"\n")?;
+    accepted_line(text, certificate.time, certificate.high)?;
     about(alloc, text, certificate)
+}
+
+/// Appends the time, and where it isn't surely the worst delay, the moment after which no admitted
+/// pair changes an output.
+fn accepted_line(text: &mut Text, time: u64, high: u64) -> Result<(), AllocError>
+    ensures { OnOk result (text.new ≡ text.old ++ accepted_line time high) }
+{
+    if time == high {
+        return text.number_between(b"accepted ", time, b"\n");
+    }
+    text.number_between(b"accepted between ", time, b" ")?;
+    text.number_between(b"", high, b"\n")
 }
 
 /// Appends the lines that tell what a certificate is about, as they stand in its text.

@@ -40,6 +40,10 @@ pub fn named<'a>(fault: JoinFault<usize>, names: &[&'a str]) -> JoinFault<&'a st
         JoinFault::OtherMoments(this, that) => {
             JoinFault::OtherMoments(name_at(names, this), name_at(names, that))
         }
+        JoinFault::OtherTerms(this, that) => {
+            JoinFault::OtherTerms(name_at(names, this), name_at(names, that))
+        }
+        JoinFault::Open(this) => JoinFault::Open(name_at(names, this)),
         JoinFault::Outside(this) => JoinFault::Outside(name_at(names, this)),
         JoinFault::Overlap(this, that) => {
             JoinFault::Overlap(name_at(names, this), name_at(names, that))
@@ -63,6 +67,8 @@ pub fn tell_unjoined(text: &mut Text, fault: &JoinFault<&str>) -> Result<(), All
         JoinFault::OtherHold(one, other) => tell_two(text, one, other, b"other inputs held"),
         JoinFault::OtherFlips(one, other) => tell_two(text, one, other, b"other flips"),
         JoinFault::OtherMoments(one, other) => tell_two(text, one, other, b"other moments"),
+        JoinFault::OtherTerms(one, other) => tell_two(text, one, other, b"other terms"),
+        JoinFault::Open(one) => tell_one(text, one, b"open"),
         JoinFault::Outside(one) => tell_one(text, one, b"other pins"),
         JoinFault::Overlap(one, other) => tell_two(text, one, other, b"a pair in both"),
         JoinFault::Crossed(one, other) => tell_two(text, one, other, b"no position parts them"),

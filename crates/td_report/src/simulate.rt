@@ -13,6 +13,7 @@ ghost use Rattle.td_report.specs.Reports.{output_lines, sim_text, IsSimReport};
 ghost use Rattle.td_report.specs.Dumps.{dump_files, HasRun};
 ghost use Rattle.td_report.specs.Vectors.{words_of};
 ghost use Rattle.td_report.specs.declared.refusal.Refusal.TheVariants as Reason;
+ghost use Rattle.td_source.specs.Reads.{IsOutputOf};
 ghost use Rattle.td_report.specs.Outcomes.{IsCircuitOf, HasNoCircuit, HasNoReport};
 
 use crate::chaining::push_last;
@@ -27,7 +28,7 @@ use td_circuit::Circuit;
 use td_gates::Level;
 use td_reading::Reading;
 use td_run::{Run, waves};
-use td_source::circuit_of;
+use td_source::{Source, circuit_of, source_of};
 
 /// What is shown of a run besides the moments of its outputs: which output changes last, and the
 /// waves, in a file of this name.
@@ -136,6 +137,21 @@ fn run_in(
     circuit.set_moments(moments);
     let run = waves(alloc, circuit, &first, &second)?;
     Ok(Ok(run))
+}
+
+/// The circuit of the netlist that is read of a text, and the number of the output that is asked
+/// about, where one is.
+pub fn source<'a>(
+    alloc: Global,
+    text: &'a [u8],
+    reading: &Reading<'_>,
+) -> Result<Source, Refusal<'a>>
+    ensures circuit { IfOk result (λ source. IsCircuitOf text.now reading.now source.circuit) }
+    ensures output { IfOk result (λ source. IsOutputOf text.now reading.now source.output) }
+    ensures refusal { IfErr result (λ refusal. HasNoCircuit text.now reading.now refusal) }
+{
+    let source = source_of(alloc, text, reading)?;
+    Ok(source)
 }
 
 /// The circuit of the netlist that is read of a text.

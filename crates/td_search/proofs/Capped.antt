@@ -4,27 +4,20 @@ use Rattle.std.proofs.Common.{◌≡◌, ℕ, zero, suc, ◌+◌, ◌-◌, ◌*�
 use Rattle.std.specs.Prelude.{map, slice_get, nat_le, ◌&&◌}
 use Rattle.std.proofs.lemmas.Bool.{cases_eq, cases_lt, leb-true, le-leb, lt-leb, or_cases, and_parts}
 use Rattle.td_circuit.specs.Settings.{Setting}
-use Rattle.td_circuit.specs.Numbering.{Numbered, setting}
+use Rattle.td_circuit.specs.Numbering.{Numbered}
 use Rattle.td_domain.specs.declared.cubes.Trit.{Trit}
 use Rattle.td_domain.specs.declared.cubes.Trit.TheVariants.{Zero, One, Free}
 use Rattle.td_domain.specs.Admits.{Admitted}
 use Rattle.td_edges.specs.declared.signals.Signal.{Signal}
 use Rattle.td_propagation.specs.declared.literal.Literal.{Literal}
-use Rattle.td_spans.specs.declared.reason.Reason.{Reason}
-use Rattle.td_spans.specs.declared.reason.Reason.TheVariants as reason
-use Rattle.td_spans.specs.declared.times.Times.{Times}
 use Rattle.td_spans.specs.declared.variable.Variable.{Variable}
 use Rattle.td_spans.specs.Changing.{sum_of, fixed_flip, fixed_at, is_so, is_still}
 use Rattle.td_spans.specs.Clauses.{level_is}
-use Rattle.td_spans.specs.Conditions.{Asked}
-use Rattle.td_spans.specs.Lowering.{latest_of}
-use Rattle.td_spans.specs.Named.{IsNamed}
 use Rattle.td_spans.specs.Pairs.{flips_of, flips_or, first_flips, reaches, held_differs, is_empty, narrowed, is_pairs_clause}
 use Rattle.td_spans.specs.Signals.{signal_by, times_from, input_at, inputs_to, gates_from, first_times}
-use Rattle.td_refutation.specs.Doing.{State, first_state, IsGood, after, AreGood, state_to}
-use Rattle.td_refutation.specs.Lines.{Step, Deed, NoDeed, Having, Naming, Showing, Lowering, Retaking, deed_of}
-use Rattle.td_refutation.specs.Refuting.{all_admitted}
+use Rattle.td_refutation.specs.Lines.{Step}
 use Rattle.td_refutation.specs.Whole.{IsRefuted}
+use Rattle.td_refutation.proofs.Questions.{refuted_goes}
 
 -- no more inputs differ than there are
 abbrev pub capped : Admitted → Admitted
@@ -141,54 +134,12 @@ module _ (circuit : Numbered) (admit : Admitted) (cube : List Trit) (helds : len
   times_same : first_times circuit (capped admit) cube ≡ first_times circuit admit cube
   times_same = ap (λ (signals : List Signal). map times_from (gates_from signals circuit.gates)) (inputs_same count (omega arith))
 
-  abbrev few : Asked
-  few = all_admitted (capped admit)
-
-  abbrev all : Asked
-  all = all_admitted admit
-
-  first_same : first_state circuit few cube ≡ first_state circuit all cube
-  first_same = ap (λ (times : List Times). record { variables = []; begun = false; times = times; clauses = [] }) times_same
-
-  named_fewer : (state : State) (why : Reason) (clause : List Literal) → IsNamed circuit all cube state.variables state.times why clause
-      → IsNamed circuit few cube state.variables state.times why clause
-  named_fewer state reason.Gate clause named = named
-  named_fewer state reason.Table clause named = named
-  named_fewer state reason.Net clause named = named
-  named_fewer state reason.Pairs clause named = (named.0, pairs_less count admit cube state.variables clause named.1)
-  named_fewer state reason.Keep clause named = named
-
-  good_fewer : (state : State) (deed : Deed) → IsGood circuit all cube state deed → IsGood circuit few cube state deed
-  good_fewer state NoDeed good = good
-  good_fewer state (Having new) good = good
-  good_fewer state (Naming why clause) good = named_fewer state why clause good
-  good_fewer state (Showing clause hints) good = good
-  good_fewer state (Lowering net level place clause hints) good = good
-  good_fewer state (Retaking net) good = good
-
-  all_fewer : (state : State) (steps : List Step) → AreGood circuit all cube state steps → AreGood circuit few cube state steps
-  all_fewer state [] good = tt
-  all_fewer state (step ∷ steps) good = (
-    good_fewer state (deed_of circuit step.kind step.numbers) good.0,
-    all_fewer (after circuit state (deed_of circuit step.kind step.numbers)) steps good.1,
-  )
-
-  pub good_of_fewer : (steps : List Step) → AreGood circuit all cube (first_state circuit all cube) steps → AreGood circuit few cube (first_state circuit few cube) steps
-  good_of_fewer steps good =
-      subst (λ (s : State). AreGood circuit few cube s steps) (sym first_same) (all_fewer (first_state circuit all cube) steps good)
-
-  pub latest_same : (steps : List Step) → latest_of (state_to circuit (first_state circuit all cube) steps).times circuit.outputs
-      ≡ latest_of (state_to circuit (first_state circuit few cube) steps).times circuit.outputs
-  latest_same steps = ap (λ (s : State). latest_of (state_to circuit s steps).times circuit.outputs) (sym first_same)
-
 pub refuted_fewer : (given : Setting) (admit : Admitted) (cube : List Trit) (steps : List Step) (bound : ℕ) → length admit.held ≡ length given.netlist.inputs
     → IsRefuted given admit cube steps bound → IsRefuted given (capped admit) cube steps bound
-refuted_fewer given admit cube steps bound helds h =
-    let same : setting h.circuit ≡ given = h.of_setting.is in
-    let own : length admit.held ≡ length h.circuit.netlist.inputs = helds ∙ ap (λ (s : Setting). length s.netlist.inputs) (sym same) in
+refuted_fewer given admit cube steps bound helds =
+    refuted_goes given admit (capped admit) cube cube steps bound (λ circuit of.
     record {
-      circuit = h.circuit;
-      of_setting = h.of_setting;
-      good = good_of_fewer h.circuit admit cube own steps h.good;
-      within = subst (λ (n : ℕ). n ≤ bound) (latest_same h.circuit admit cube own steps) h.within;
-    }
+      times = sym (times_same circuit admit cube (helds ∙ ap (λ (s : Setting). length s.netlist.inputs) (sym of.is)));
+      pairs = λ variables clause is. pairs_less (length circuit.netlist.inputs) admit cube variables clause is;
+      keep = λ variables clause is. is;
+    })

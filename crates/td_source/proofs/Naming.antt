@@ -17,7 +17,7 @@ use Rattle.td_circuit.specs.declared.building.BuildFault.{BuildFault}
 use Rattle.td_circuit.specs.declared.building.BuildFault.TheVariants as build
 use Rattle.td_circuit.specs.Built.{FitsBuildFault}
 use Rattle.td_source.specs.Faults.{IsOfFault, IsOfLoop, IsSourceFault}
-use Rattle.td_source.specs.Reads.{NoneBefore, IsFirstNamed, HasNoneNamed, IsAskedAbout, ReadsNetlist, ReadsOne}
+use Rattle.td_source.specs.Reads.{NoneBefore, IsFirstNamed, HasNoneNamed, IsAskedAbout, ReadsNetlist, ReadsOne, IsOutputIn, IsOutputOf}
 
 -- one more output that isn't printed so
 pub none_next : (netlist : Netlist) (word : List ℕ) (count : ℕ) (name : Name) → slice_get netlist.outputs count ≡ Some name
@@ -53,6 +53,17 @@ one_asked : (whole : Netlist) (word : Option (List ℕ)) (one other : Netlist) �
 one_asked whole None one other p q = p ∙ sym q
 one_asked whole (Some word) one other p q =
     same_alone whole q.0 one other (subst (λ (place : ℕ). IsAlone whole place one) (one_place whole word p.0 q.0 p.1 q.1) p.2) q.2
+
+same_output : (whole : Netlist) (word : Option (List ℕ)) (one other : Option ℕ) → IsOutputIn whole word one → IsOutputIn whole word other → one ≡ other
+same_output whole None one other p q = p ∙ sym q
+same_output whole (Some word) one other p q =
+    p.1 ∙ ap (λ (place : ℕ). Some place) (one_place whole word p.0 q.0 p.2 q.2) ∙ sym q.1
+
+-- a reading of a text asks about one output at most
+pub one_output : (text : List ℕ) (reading : Reading) (one other : Option ℕ) → IsOutputOf text reading one → IsOutputOf text reading other → one ≡ other
+one_output text reading one other p q =
+    let same : p.whole ≡ q.whole = one_netlist text reading.default p.whole q.whole p.means q.means in
+    same_output q.whole (output_asked reading) one other (subst (λ (whole : Netlist). IsOutputIn whole (output_asked reading) one) same p.is) q.is
 
 pub reads_one : ReadsOne
 reads_one text reading one other p q =

@@ -7,4 +7,4 @@ mod outputs;
 mod source;
 
 pub use fault::SourceFault;
-pub use source::circuit_of;
+pub use source::{Source, circuit_of, source_of};

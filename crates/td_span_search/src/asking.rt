@@ -99,7 +99,7 @@ impl<'a> Search<'a> {
     }
 
     // By net whether it lies in the cone of one.
-    fn cone(&self, net: Net) -> Result<Vec<bool>, AllocError> {
+    pub(crate) fn cone(&self, net: Net) -> Result<Vec<bool>, AllocError> {
         let mut cone = vec![in self.alloc; false; self.network.nets()]?;
         write_at(&mut cone, net as usize, true);
         for member in (self.network.first_gate()..net.saturating_add(1)).rev() {
@@ -166,10 +166,13 @@ impl<'a> Search<'a> {
         }
         let variable = self.span(span)?;
         if asked.last.is_none() {
-            self.goals.push(Goal {
+            let goal = Goal {
                 moment: asked.place.saturating_sub(1),
                 variable,
-            })?;
+            };
+            if !self.goals.contains(&goal) {
+                self.goals.push(goal)?;
+            }
         }
         if level {
             assumptions.rises = Some(variable);
@@ -199,6 +202,10 @@ impl<'a> Search<'a> {
                 }
                 None => None,
             };
+            if self.is_paused() {
+                return Ok(Reply::Open);
+            }
+            self.pace_solver();
             let question = Question {
                 assumptions: &assumptions.literals,
                 inputs: &self.inputs,

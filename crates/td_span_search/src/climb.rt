@@ -9,11 +9,23 @@ use td_cdcl::small;
 // So many times as many moves as there are inputs without a better pair, and a climb goes
 // elsewhere.
 const PATIENCE: u64 = 40;
+// So many steps a net of a simulation takes, and a change of one.
+const STEPS_OF_A_NET: u64 = 5;
+
+const STEPS_OF_A_CHANGE: u64 = 12;
 
 impl<'a> Search<'a> {
     /// Simulates a pair up to a net, and notes the last changes. The error is out of memory.
     pub(crate) fn simulate_up_to(&mut self, pair: &PairBits, last: Net) -> Result<(), AllocError> {
-        if self.waves.run(self.network, pair, last)? {
+        let is_whole = self.waves.run(self.network, pair, last)?;
+        let nets = u64::from(last).saturating_mul(STEPS_OF_A_NET);
+        let changes = (self.waves.count() as u64).saturating_mul(STEPS_OF_A_CHANGE);
+        self.counts.simulated = self
+            .counts
+            .simulated
+            .saturating_add(nets)
+            .saturating_add(changes);
+        if is_whole {
             self.reach.note(&self.waves, last);
         } else {
             self.is_lost = true;
@@ -40,15 +52,20 @@ impl<'a> Search<'a> {
     }
 
     /// Tries pairs near one, with up to `bits` inputs moved; pairs that are as late are taken too.
-    /// The error is out of memory.
-    pub(crate) fn climb(&mut self, tries: u64, from: Found, bits: usize) -> Result<(), AllocError> {
+    /// Answers where it stands in the end. The error is out of memory.
+    pub(crate) fn climb(
+        &mut self,
+        tries: u64,
+        from: Found,
+        bits: usize,
+    ) -> Result<Found, AllocError> {
         let inputs = self.network.inputs();
         let patience = PATIENCE.saturating_mul(inputs as u64);
         let mut here = from;
         let mut idle = 0u64;
         for _ in 0..tries {
             if inputs == 0 || self.best_known() >= self.top() || self.is_over() {
-                return Ok(());
+                return Ok(here);
             }
             let mut pair = here.pair.copy(self.alloc)?;
             for _ in 0..self.draw(bits).saturating_add(1) {
@@ -69,7 +86,7 @@ impl<'a> Search<'a> {
                 here = self.elsewhere(here.pair)?;
             }
         }
-        Ok(())
+        Ok(here)
     }
 
     // A pair with moves at all inputs.

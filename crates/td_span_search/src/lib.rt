@@ -12,6 +12,9 @@
 //! isn't late enough, the run is explained backwards, and each explanation is a clause over one
 //! gate. So a clause is made only where a run asked for it.
 //!
+//! Several workers search in rounds: each is a search of its own, and all that they do stands in
+//! one log, as if one had done it.
+//!
 //! Nothing here is trusted: what it finds is a pair, whose delay is measured, and steps, which are
 //! judged.
 #![tactic(auto)]
@@ -24,21 +27,28 @@ mod explanation;
 mod forgetting;
 mod levels;
 mod limits;
+mod log;
 mod network;
 mod pairs;
+mod plan;
 mod reach;
 mod record;
 mod refinement;
 mod refutation;
+mod round;
 mod schedule;
 mod search;
+mod source;
 mod span;
 mod spans;
 mod spelling;
 mod sweep;
+mod team;
+mod tree;
 mod trim;
 mod vocabulary;
 mod waves;
+mod worker;
 
 pub use limits::Limits;
 pub use network::Network;
@@ -46,5 +56,6 @@ pub use pairs::{Admitted, PairBits};
 pub use reach::Times;
 pub use record::{Axiom, Holds, Link, Note};
 pub use refutation::{Refutation, Step};
-pub use search::{Meaning, Search};
+pub use search::{Ending, Meaning, Search};
 pub use span::{FOREVER, Span};
+pub use team::Team;

@@ -1,5 +1,10 @@
 //! How much a search does.
 
+// The first worker alone takes as many steps as one takes in so many rounds.
+const ROUNDS_ALONE: u64 = 30;
+
+const LEAST_SLICE: u64 = 50_000;
+
 /// How much a search does. Each number of work is in units: a conflict, 1,000 propagations or an
 /// explanation is one. So a search does the same on each machine.
 #[derive(Clone, Copy, Debug, Drop)]
@@ -24,6 +29,10 @@ pub struct Limits {
     pub sweep: u64,
     /// Spans that no open question needs go when there are so many.
     pub dead: usize,
+    /// It ends once it takes so much memory by its own account, in words of 4 bytes.
+    pub words: u64,
+    /// Further workers begin once the first one has taken so many steps (`Search::steps`).
+    pub alone: u64,
 }
 
 impl Limits {
@@ -40,6 +49,13 @@ impl Limits {
             sweeps_from: 4_000,
             sweep: 20,
             dead: 4_000,
+            words: u64::MAX,
+            alone: 300_000_000,
         }
+    }
+
+    /// How many steps a worker takes in a round.
+    pub fn slice(self) -> u64 {
+        (self.alone / ROUNDS_ALONE).max(LEAST_SLICE)
     }
 }

@@ -6,7 +6,7 @@ use td_cdcl::{read, write_at};
 use td_domain::{Admit, Trit};
 
 /// The bits of a pair of vectors.
-#[derive(Debug, Drop)]
+#[derive(Clone, Debug, Drop)]
 pub struct PairBits {
     pub first: Vec<bool>,
     pub second: Vec<bool>,

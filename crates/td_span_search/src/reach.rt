@@ -17,7 +17,7 @@ pub struct Times {
 }
 
 /// What is known of the moments at which nets change.
-#[derive(Drop)]
+#[derive(Clone, Drop)]
 pub struct Reach {
     // By net, before any question and now.
     first: Vec<Times>,
@@ -32,7 +32,8 @@ pub struct Reach {
 }
 
 impl Times {
-    const NEVER: Times = Times {
+    /// Those of a net that never changes.
+    pub const NEVER: Times = Times {
         early: FOREVER,
         falls: 0,
         rises: 0,
@@ -163,6 +164,11 @@ impl Reach {
         read(&self.times, net as usize, Times::NEVER)
     }
 
+    /// By net when it may change, by what was known before any question.
+    pub fn before_questions(&self) -> &[Times] {
+        &self.first
+    }
+
     /// When a net may change, by what was known before any question.
     #[inline(always)]
     pub fn first(&self, net: Net) -> Times {
@@ -211,6 +217,30 @@ impl Reach {
             top = top.max(self.height(*output));
         }
         top
+    }
+
+    /// The outputs that may change after a moment, the latest ones first. The error is out of
+    /// memory.
+    pub fn late_outputs(
+        &self,
+        alloc: Global,
+        network: &Network,
+        moment: u64,
+    ) -> Result<Vec<Net>, AllocError> {
+        let mut ranked = Vec::new(alloc);
+        for output in network.outputs() {
+            let height = self.height(*output);
+            if height > moment {
+                ranked.push((u64::MAX.saturating_sub(height), *output))?;
+            }
+        }
+        ranked.sort_unstable();
+        ranked.dedup();
+        let mut outputs = Vec::new(alloc);
+        for (_, output) in &ranked {
+            outputs.push(*output)?;
+        }
+        Ok(outputs)
     }
 
     /// A span that says the same, as far as it goes: where the net can't change any more, it never

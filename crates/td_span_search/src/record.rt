@@ -5,6 +5,10 @@ use crate::span::Span;
 use std::alloc::{AllocError, Global};
 use td_cdcl::{ClauseNumber, Literal};
 
+const WORDS_OF_AN_ENTRY: u64 = 16;
+
+const WORDS_OF_WHAT_HOLDS: u64 = 4;
+
 /// What holds of a gate's input: a literal; or a span of a contracted net, by its place among the
 /// links.
 #[derive(Clone, Copy, Debug, PartialEq, Eq, Drop)]
@@ -14,7 +18,7 @@ pub enum Holds {
 }
 
 /// A span of a contracted net, and what gives it.
-#[derive(Drop)]
+#[derive(Clone, Drop)]
 pub struct Link {
     pub span: Span,
     pub holds: Vec<Holds>,
@@ -22,18 +26,20 @@ pub struct Link {
 
 /// Why a clause that was given is true of each run: by the scheduling rule of the gate that drives
 /// a net, with what holds of its inputs; by the table of a gate, of first or of last levels; since
-/// a net has one level at a place; by the pins, held inputs and flips.
-#[derive(Drop)]
+/// a net has one level at a place; by the pins, held inputs and flips; or since another worker has
+/// shown it, by its number in the log of all.
+#[derive(Clone, Drop)]
 pub enum Axiom {
     Gate(Net, Vec<Holds>),
     Table(Net, bool),
     Net,
     Admitted,
+    Told(ClauseNumber),
 }
 
 /// What was noted, before the clause of the proof with a number: that this one is given by an
 /// axiom; that an end of a net is this place by a lemma; or by the ends of its gate's inputs.
-#[derive(Drop)]
+#[derive(Clone, Drop)]
 pub enum Note {
     Given(ClauseNumber, Axiom),
     Lowered {
@@ -52,10 +58,12 @@ pub enum Note {
 }
 
 /// All that was noted, in its order.
-#[derive(Drop)]
+#[derive(Clone, Drop)]
 pub struct Record {
     pub notes: Vec<Note>,
     pub links: Vec<Link>,
+    // How many things hold in all notes and links.
+    holds: u64,
 }
 
 impl Record {
@@ -64,11 +72,23 @@ impl Record {
         Record {
             notes: Vec::new(alloc),
             links: Vec::new(alloc),
+            holds: 0,
         }
+    }
+
+    /// How many words of 4 bytes it takes, about, with what the search keeps beside.
+    pub fn words(&self) -> u64 {
+        let entries = self.notes.len().saturating_add(self.links.len()) as u64;
+        entries
+            .saturating_mul(WORDS_OF_AN_ENTRY)
+            .saturating_add(self.holds.saturating_mul(WORDS_OF_WHAT_HOLDS))
     }
 
     /// Adds a note. The error is out of memory.
     pub fn add(&mut self, note: Note) -> Result<(), AllocError> {
+        if let Note::Given(_, Axiom::Gate(_, holds)) = &note {
+            self.holds = self.holds.saturating_add(holds.len() as u64);
+        }
         self.notes.push(note)?;
         Ok(())
     }
@@ -78,6 +98,7 @@ impl Record {
         let Ok(place) = u32::try_from(self.links.len()) else {
             return Err(AllocError);
         };
+        self.holds = self.holds.saturating_add(link.holds.len() as u64);
         self.links.push(link)?;
         Ok(Holds::Link(place))
     }

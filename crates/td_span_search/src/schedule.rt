@@ -2,8 +2,9 @@
 //! the effort.
 
 use crate::asking::{Asked, Reply};
+use crate::limits::Limits;
 use crate::search::{Found, Search};
-use std::alloc::AllocError;
+use std::alloc::{AllocError, Global};
 use std::mem;
 
 // The first question stands a part of what is open below the top: one part of two to this power.
@@ -14,8 +15,8 @@ const MOST_TRIES: u64 = 20_000;
 
 /// Where the next question stands.
 #[derive(Drop)]
-struct Schedule {
-    effort: u64,
+pub struct Schedule {
+    pub effort: u64,
     // A new question stands a part of what is open below the top: one part of two to this power.
     share: u32,
     // Moments of questions that stay open, falling.
@@ -27,9 +28,25 @@ struct Schedule {
 }
 
 impl Schedule {
-    // The moment of the next question, after which an output may change: `low` is the best delay,
-    // `top` the latest moment that is possible.
-    fn moment(&self, low: u64, top: u64) -> u64 {
+    /// Before the first question.
+    pub fn new(alloc: Global, limits: Limits) -> Schedule {
+        Schedule {
+            effort: limits.effort,
+            share: FIRST_SHARE,
+            failed: Vec::new(alloc),
+            is_again: false,
+            sweeps_from: limits.sweeps_from,
+        }
+    }
+
+    /// Forgets the moments that are answered by now.
+    pub fn keep_open(&mut self, low: u64, top: u64) {
+        self.failed.retain(|moment| *moment < top && *moment >= low);
+    }
+
+    /// The moment of the next question, after which an output may change: `low` is the best delay,
+    /// `top` the latest moment that is possible.
+    pub fn moment(&self, low: u64, top: u64) -> u64 {
         match self.failed.last() {
             Some(moment) => {
                 if self.is_again || moment.saturating_add(1) >= top {
@@ -46,21 +63,21 @@ impl Schedule {
         }
     }
 
-    // All outputs were answered with no.
-    fn answered(&mut self) {
+    /// All outputs were answered with no.
+    pub fn answered(&mut self) {
         self.is_again = true;
         if self.failed.is_empty() {
             self.share = self.share.saturating_sub(1);
         }
     }
 
-    // A pair was found.
-    fn found(&mut self) {
+    /// A pair was found.
+    pub fn found(&mut self) {
         self.share = 1;
     }
 
-    // A question stayed open.
-    fn stayed_open(&mut self, moment: u64) -> Result<(), AllocError> {
+    /// A question stayed open. The error is out of memory.
+    pub fn stayed_open(&mut self, moment: u64) -> Result<(), AllocError> {
         if self.failed.last().copied() != Some(moment) {
             self.failed.push(moment)?;
         }
@@ -74,23 +91,22 @@ impl<'a> Search<'a> {
     /// work is done, or the stop is set. What was found stands in the search, also after an error,
     /// which is out of memory.
     pub fn run(&mut self) -> Result<(), AllocError> {
+        let mut schedule = Schedule::new(self.alloc, self.limits);
+        self.run_by(&mut schedule)
+    }
+
+    /// Likewise by a schedule, until it pauses. The error is out of memory.
+    pub(crate) fn run_by(&mut self, schedule: &mut Schedule) -> Result<(), AllocError> {
         let pair = self.best.pair.copy(self.alloc)?;
         let delay = self.simulate(&pair)?;
         let gates = self.network.nodes().len().max(1) as u64;
         let tries = (self.limits.climb / gates).min(MOST_TRIES);
         self.climb(tries, Found { delay, pair }, 4)?;
-        let mut schedule = Schedule {
-            effort: self.limits.effort,
-            share: FIRST_SHARE,
-            failed: Vec::new(self.alloc),
-            is_again: false,
-            sweeps_from: self.limits.sweeps_from,
-        };
         for _ in 0..u64::MAX {
             if self.best_known() >= self.top() || self.is_over() {
                 return Ok(());
             }
-            self.turn(&mut schedule)?;
+            self.turn(schedule)?;
         }
         Ok(())
     }
@@ -99,9 +115,7 @@ impl<'a> Search<'a> {
     fn turn(&mut self, schedule: &mut Schedule) -> Result<(), AllocError> {
         let low = self.best_known();
         let top = self.top();
-        schedule
-            .failed
-            .retain(|moment| *moment < top && *moment >= low);
+        schedule.keep_open(low, top);
         let moment = schedule.moment(low, top);
         self.forget(low, top.saturating_sub(1))?;
         let left = self.limits.work.saturating_sub(self.spent()).max(1);
@@ -118,9 +132,13 @@ impl<'a> Search<'a> {
                     delay: self.best.delay,
                     pair: self.best.pair.copy(self.alloc)?,
                 };
-                self.climb(self.limits.near as u64, from, 3)
+                self.climb(self.limits.near as u64, from, 3)?;
+                Ok(())
             }
             Reply::Open => {
+                if self.is_paused() {
+                    return Ok(());
+                }
                 if let Some(from) = candidate {
                     self.climb(self.limits.near as u64, from, 3)?;
                 }
@@ -149,17 +167,9 @@ impl<'a> Search<'a> {
     // Whether one of the outputs that may change after the moment does, the latest first; open
     // where the effort isn't enough for one.
     fn outputs(&mut self, moment: u64, effort: u64) -> Result<Reply, AllocError> {
-        let mut outputs = Vec::new(self.alloc);
-        for output in self.network.outputs() {
-            let height = self.reach.height(*output);
-            if height > moment {
-                outputs.push((u64::MAX.saturating_sub(height), *output))?;
-            }
-        }
-        outputs.sort_unstable();
-        outputs.dedup();
+        let outputs = self.reach.late_outputs(self.alloc, self.network, moment)?;
         let mut last = Reply::No(0);
-        for (_, output) in &outputs {
+        for output in &outputs {
             let place = moment.saturating_add(1);
             let asked = Asked {
                 net: *output,

@@ -5,12 +5,17 @@ use crate::network::{Net, Network};
 use crate::pairs::{Admitted, PairBits};
 use crate::reach::{Reach, Times};
 use crate::record::{Axiom, Note, Record};
+use crate::refutation::Refutation;
+use crate::source::Source;
 use crate::span::Span;
 use crate::spans::Spans;
 use crate::waves::Waves;
 use std::alloc::{AllocError, Global};
 use td_cdcl::{ClauseNumber, Literal, Solver, literal_at, read, small, write_at};
 use td_stop::Stop;
+
+// So many steps a look at a watch takes.
+const STEPS_OF_A_LOOK: u64 = 6;
 
 /// What a variable says: that a net's first or last level is 1; that a span is true; that at least
 /// so many of the first so many inputs differ; or nothing any more, since its span is forgotten.
@@ -25,10 +30,36 @@ pub enum Meaning {
 
 /// The literals that say that the nets are at 1 at the start, or in the end; none where no question
 /// has asked for it. A contracted net has its source's.
-#[derive(Drop)]
+#[derive(Clone, Drop)]
 pub struct Settled {
     pub first: Vec<Option<Literal>>,
     pub last: Vec<Option<Literal>>,
+}
+
+impl Settled {
+    /// None of so many nets. The error is out of memory.
+    pub fn new(alloc: Global, nets: usize) -> Result<Settled, AllocError> {
+        Ok(Settled {
+            first: vec![in alloc; None; nets]?,
+            last: vec![in alloc; None; nets]?,
+        })
+    }
+
+    /// The literal that says that a net is at 1 at the start, or in the end, if there is one.
+    pub fn literal(&self, net: Net, is_last: bool) -> Option<Literal> {
+        let literals = if is_last { &self.last } else { &self.first };
+        read(literals, net as usize, None)
+    }
+
+    /// Sets that literal.
+    pub fn set(&mut self, net: Net, is_last: bool, literal: Literal) {
+        let literals = if is_last {
+            &mut self.last
+        } else {
+            &mut self.first
+        };
+        write_at(literals, net as usize, Some(literal));
+    }
 }
 
 /// A bit of an input that holds in a question.
@@ -40,14 +71,14 @@ pub struct CubeBit {
 }
 
 /// A span that would answer a question, and the moment that the question asks about.
-#[derive(Clone, Copy, Drop)]
+#[derive(Clone, Copy, PartialEq, Eq, Drop)]
 pub struct Goal {
     pub moment: u64,
     pub variable: u32,
 }
 
 /// A pair and its delay.
-#[derive(Drop)]
+#[derive(Clone, Drop)]
 pub struct Found {
     pub delay: u64,
     pub pair: PairBits,
@@ -67,10 +98,24 @@ pub struct Counts {
     pub models: u64,
     pub explanations: u64,
     pub simulations: u64,
+    /// Steps of simulations: 5 for each net, and 12 for each change.
+    pub simulated: u64,
+}
+
+/// Why a search ends: the best delay that is known is the latest moment that is possible; its work
+/// is done; its stop is set; it takes as much memory as it may; or a run has too many changes, or a
+/// gate too many inputs, to be followed.
+#[derive(Clone, Copy, Debug, PartialEq, Eq, Drop)]
+pub enum Ending {
+    Closed,
+    Work,
+    Stop,
+    Memory,
+    Lost,
 }
 
 /// A search under way.
-#[derive(Drop)]
+#[derive(Clone, Drop)]
 pub struct Search<'a> {
     pub(crate) alloc: Global,
     pub(crate) network: &'a Network,
@@ -105,6 +150,8 @@ pub struct Search<'a> {
     pub(crate) needs: Vec<Vec<u32>>,
     pub(crate) draws: u64,
     pub(crate) counts: Counts,
+    // After how many steps it pauses.
+    pub(crate) pause: u64,
     // Whether a run had too many changes to be followed.
     pub(crate) is_lost: bool,
 }
@@ -134,10 +181,7 @@ impl<'a> Search<'a> {
             solver: Solver::new(alloc),
             meanings: Vec::new(alloc),
             reasons: Vec::new(alloc),
-            settled: Settled {
-                first: vec![in alloc; None; nets]?,
-                last: vec![in alloc; None; nets]?,
-            },
+            settled: Settled::new(alloc, nets)?,
             spans: Spans::new(alloc, nets)?,
             reach: Reach::new(alloc, network, times)?,
             waves: Waves::new(alloc),
@@ -164,7 +208,9 @@ impl<'a> Search<'a> {
                 models: 0,
                 explanations: 0,
                 simulations: 0,
+                simulated: 0,
             },
+            pause: u64::MAX,
             is_lost: false,
         })
     }
@@ -209,10 +255,64 @@ impl<'a> Search<'a> {
         self.solver.work().saturating_add(self.counts.explanations)
     }
 
-    /// Whether the search is to end: its work is done, its stop is set, or a run had too many
-    /// changes.
+    /// The steps that were taken: 6 for a look at a watch, 5,000 for an explanation, and those of
+    /// simulations. They take about as long each.
+    pub fn steps(&self) -> u64 {
+        let looks = self.solver.looks().saturating_mul(STEPS_OF_A_LOOK);
+        let explained = self.counts.explanations.saturating_mul(5000);
+        looks
+            .saturating_add(explained)
+            .saturating_add(self.counts.simulated)
+    }
+
+    /// The steps of a simulation, on average.
+    pub(crate) fn steps_of_a_run(&self) -> u64 {
+        self.counts.simulated / self.counts.simulations.max(1)
+    }
+
+    /// How much memory it takes, in words of 4 bytes, about.
+    pub fn words(&self) -> u64 {
+        self.solver.words().saturating_add(self.record.words())
+    }
+
+    /// Whether the search is to end or to pause.
     pub(crate) fn is_over(&self) -> bool {
-        self.is_lost || self.stop.is_set() || self.spent() >= self.limits.work
+        self.is_paused() || self.ends().is_some()
+    }
+
+    /// Whether the search has taken the steps after which it pauses.
+    pub(crate) fn is_paused(&self) -> bool {
+        self.steps() >= self.pause
+    }
+
+    // Why the search is to end, but for what was found.
+    fn ends(&self) -> Option<Ending> {
+        if self.is_lost {
+            Some(Ending::Lost)
+        } else if self.stop.is_set() {
+            Some(Ending::Stop)
+        } else if self.spent() >= self.limits.work {
+            Some(Ending::Work)
+        } else if self.words() >= self.limits.words {
+            Some(Ending::Memory)
+        } else {
+            None
+        }
+    }
+
+    /// Why the search ends, if it is to end.
+    pub fn ending(&self) -> Option<Ending> {
+        if self.best_known() >= self.top() {
+            return Some(Ending::Closed);
+        }
+        self.ends()
+    }
+
+    /// Lets the solver's questions stay open once the search pauses.
+    pub(crate) fn pace_solver(&mut self) {
+        let left = self.pause.saturating_sub(self.steps()) / STEPS_OF_A_LOOK;
+        let looks = self.solver.looks().saturating_add(left);
+        self.solver.pause_at(looks);
     }
 
     /// What a variable says.
@@ -244,27 +344,36 @@ impl<'a> Search<'a> {
 
     /// The number of the next clause of the proof.
     pub(crate) fn next_number(&self) -> ClauseNumber {
-        small(self.solver.proof().len())
+        self.solver.proof().next()
     }
 
     /// The literal that says that a net is at 1 at the start, or in the end, if there is one.
     pub(crate) fn settled_literal(&self, net: Net, is_last: bool) -> Option<Literal> {
-        let literals = if is_last {
-            &self.settled.last
-        } else {
-            &self.settled.first
-        };
-        read(literals, net as usize, None)
+        self.settled.literal(net, is_last)
     }
 
     /// Sets the literal that says that a net is at 1 at the start, or in the end.
     pub(crate) fn set_settled(&mut self, net: Net, is_last: bool, literal: Literal) {
-        let literals = if is_last {
-            &mut self.settled.last
-        } else {
-            &mut self.settled.first
-        };
-        write_at(literals, net as usize, Some(literal));
+        self.settled.set(net, is_last, literal);
+    }
+
+    /// Steps that show that no output changes after the bound, which is `top` at least. The error
+    /// is out of memory.
+    pub fn refutation(&self, bound: u64) -> Result<Refutation, AllocError> {
+        self.source().refutation(bound)
+    }
+
+    fn source(&self) -> Source<'_> {
+        Source {
+            alloc: self.alloc,
+            network: self.network,
+            first: self.reach.before_questions(),
+            proof: self.solver.proof(),
+            contradiction: self.solver.contradiction(),
+            meanings: &self.meanings,
+            record: &self.record,
+            settled: &self.settled,
+        }
     }
 
     /// Lowers an end of a net by a lemma. The error is out of memory.

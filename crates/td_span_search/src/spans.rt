@@ -14,7 +14,7 @@ pub struct Entry {
 
 /// Of one net and level: spans that never end, by first place; spans from place 0 on, by last
 /// place; the others, by first place and last.
-#[derive(Drop)]
+#[derive(Clone, Drop)]
 pub struct Chain {
     pub late: Vec<Entry>,
     pub early: Vec<Entry>,
@@ -22,7 +22,7 @@ pub struct Chain {
 }
 
 /// The chains of all nets.
-#[derive(Drop)]
+#[derive(Clone, Drop)]
 pub struct Spans {
     falls: Vec<Chain>,
     rises: Vec<Chain>,

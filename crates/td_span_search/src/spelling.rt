@@ -4,7 +4,8 @@ use crate::levels::at_level;
 use crate::network::{Net, Node};
 use crate::record::{Axiom, Holds, Note};
 use crate::refutation::{Refutation, Step};
-use crate::search::{Meaning, Search};
+use crate::search::Meaning;
+use crate::source::Source;
 use crate::span::Span;
 use crate::spans::Spans;
 use crate::trim::{Mark, Trim};
@@ -157,15 +158,15 @@ fn clause_of(
     Ok(clause)
 }
 
-impl<'a> Search<'a> {
+impl<'b> Source<'b> {
     /// Steps that show that no output changes after the bound, which is `top` at least. The error
     /// is out of memory.
     pub fn refutation(&self, bound: u64) -> Result<Refutation, AllocError> {
         let trim = self.trim(bound)?;
-        let clauses = self.solver.proof().len();
+        let clauses = self.proof.len();
         let mut spelling = Spelling::new(
             self.alloc,
-            &self.meanings,
+            self.meanings,
             self.network.nets(),
             clauses,
             self.record.links.len(),
@@ -175,7 +176,7 @@ impl<'a> Search<'a> {
             mark = self.spell_marks(number, mark, &trim, &mut spelling)?;
             self.spell_clause(number, &trim, &mut spelling)?;
         }
-        renumbered(self.alloc, spelling, self.solver.contradiction().is_some())
+        renumbered(self.alloc, spelling, self.contradiction.is_some())
     }
 
     // Spells the lowered ends before a clause. Answers the place of the next one.
@@ -213,7 +214,7 @@ impl<'a> Search<'a> {
 
     // A lemma that one end alone needs stands in the step of the end.
     fn is_fused(&self, number: ClauseNumber, trim: &Trim) -> bool {
-        !self.solver.proof().is_given(number)
+        !self.proof.is_given(number)
             && !read(&trim.is_hint, number as usize, false)
             && read(&trim.ends, number as usize, 0) == 1
     }
@@ -225,7 +226,7 @@ impl<'a> Search<'a> {
         trim: &Trim,
         spelling: &mut Spelling,
     ) -> Result<(), AllocError> {
-        let proof = self.solver.proof();
+        let proof = self.proof;
         let hints = if self.is_fused(lemma, trim) {
             self.named(proof.hints(lemma), spelling)?
         } else {
@@ -264,7 +265,7 @@ impl<'a> Search<'a> {
         if !read(&trim.is_needed, number, false) || self.is_fused(clause, trim) {
             return Ok(());
         }
-        let proof = self.solver.proof();
+        let proof = self.proof;
         let name = if proof.is_given(clause) {
             self.spell_given(clause, trim, spelling)?
         } else {
@@ -285,7 +286,7 @@ impl<'a> Search<'a> {
         let Some(place) = read(&trim.notes, number as usize, None) else {
             return Err(AllocError);
         };
-        let literals = self.solver.proof().literals(number);
+        let literals = self.proof.literals(number);
         match self.record.notes.get(place as usize) {
             Some(Note::Given(_, Axiom::Gate(_, holds))) => {
                 self.spell_gate(literals, holds, spelling)
@@ -426,7 +427,7 @@ impl<'a> Search<'a> {
         let mut chain = Vec::new(self.alloc);
         let mut source = net;
         for _ in 0..self.network.nets() {
-            if !self.is_thin(source) {
+            if !self.network.is_thin(source) {
                 break;
             }
             chain.push(source)?;

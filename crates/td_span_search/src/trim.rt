@@ -1,7 +1,8 @@
 //! Which clauses and lowered ends a bound needs, found backwards from the outputs' ends.
 
 use crate::record::{Axiom, Note};
-use crate::search::{Meaning, Search};
+use crate::search::Meaning;
+use crate::source::Source;
 use std::alloc::{AllocError, Global};
 use td_cdcl::{ClauseNumber, read, small, variable_of, write_at};
 
@@ -126,15 +127,15 @@ impl Trim {
     }
 }
 
-impl<'a> Search<'a> {
+impl<'b> Source<'b> {
     /// What the bound needs. The error is out of memory.
     pub(crate) fn trim(&self, bound: u64) -> Result<Trim, AllocError> {
-        let clauses = self.solver.proof().len();
+        let clauses = self.proof.len();
         let mut trim = Trim::new(self.alloc, clauses, self.network.nets())?;
         trim.sort_notes(&self.record.notes)?;
         trim.find_enough(bound);
         let mut left = trim.marks.len();
-        if let Some(empty) = self.solver.contradiction() {
+        if let Some(empty) = self.contradiction {
             trim.need_as_hint(empty);
             left = trim.marks.partition_point(|mark| mark.before <= empty);
         }
@@ -162,7 +163,7 @@ impl<'a> Search<'a> {
             return;
         }
         let number = small(number);
-        let proof = self.solver.proof();
+        let proof = self.proof;
         if !proof.is_given(number) {
             for hint in proof.hints(number) {
                 trim.need_as_hint(*hint);
@@ -193,8 +194,8 @@ impl<'a> Search<'a> {
     fn trim_mark(&self, place: usize, mark: Mark, bound: u64, trim: &mut Trim) {
         let end = place_of(mark.net, mark.level);
         let is_goal = self.network.is_output(mark.net)
-            && self.reach.first(mark.net).end(mark.level) > bound.saturating_add(1)
-            && self.solver.contradiction().is_none();
+            && self.first(mark.net).end(mark.level) > bound.saturating_add(1)
+            && self.contradiction.is_none();
         if is_goal && read(&trim.enough, end, None) == Some(place) {
             trim.want(mark.net, mark.level);
         }

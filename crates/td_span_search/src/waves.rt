@@ -33,7 +33,7 @@ pub struct Stretch {
 }
 
 /// The waves of the run that was simulated last.
-#[derive(Drop)]
+#[derive(Clone, Drop)]
 pub struct Waves {
     // By net.
     starts: Vec<bool>,
@@ -129,6 +129,11 @@ impl Waves {
             Some(own) => own,
             None => &[],
         }
+    }
+
+    /// How many changes there are.
+    pub fn count(&self) -> usize {
+        self.moments.len()
     }
 
     /// The level of a net at the start.

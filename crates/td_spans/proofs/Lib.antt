@@ -3,6 +3,7 @@ pub mod Sums
 pub mod Running
 pub mod Keeping
 pub mod Gates
+pub mod Packings
 pub mod Firsts
 pub mod Covering
 pub mod Edges

@@ -1,5 +1,5 @@
 -- Steps: each step keeps what is true of the runs.
-use Rattle.std.proofs.Common.{◌≡◌, ℕ, ◌+◌, ◌-◌, ◌<◌, Bool, true, false, List, [], ◌∷◌, ◌++◌, length, map, refl, arith, ap, subst, ◌∙◌, Option, Some, None}
+use Rattle.std.proofs.Common.{◌≡◌, ℕ, ◌+◌, ◌-◌, ◌<◌, Bool, true, false, List, [], ◌∷◌, ◌++◌, length, refl, arith, ap, subst, ◌∙◌, Option, Some, None}
 use Rattle.std.proofs.Math.ListN.{length-set}
 use Rattle.std.specs.Prelude.{get_or, slice_get, Result, Ok, Err, OnOk, OnErr}
 use Rattle.td_spans.specs.declared.fault.Fault.{Fault}
@@ -80,7 +80,7 @@ module _ (circuit : Numbered) (asked : Asked) (cube : List Trit) (variables : Li
         let was = old pair waves admitted is_in runs in (
           was.0,
           sound.more circuit fits.numbering fits.moments cube fits.whole asked.admit fits.held variables pair waves admitted.admitted is_in runs times clauses was.0 was.1
-              clause (clauses ++ clause ∷ []) refl (shown_true was.1.valuation clauses count clause (map (λ hint. length clauses - hint) hints) was.1.true shown),
+              clause (clauses ++ clause ∷ []) refl (shown_true was.1.valuation clauses count clause hints was.1.true shown),
         )
 
     pub lowered_refutes : (net : ℕ) (level : Bool) (place count : ℕ) (clause : List Literal) (hints : List ℕ) → net < length times
@@ -92,7 +92,7 @@ module _ (circuit : Numbered) (asked : Asked) (cube : List Trit) (variables : Li
           sound.with_times circuit fits.numbering fits.moments cube fits.whole asked.admit fits.held variables pair waves admitted.admitted is_in runs times clauses was.0 was.1
               (lower times net level place)
               (sound.lower_holds circuit fits.numbering fits.moments cube fits.whole asked.admit fits.held variables pair waves admitted.admitted is_in runs times clauses was.0 was.1
-              net low level place clause rests (shown_true was.1.valuation clauses count clause (map (λ hint. length clauses - hint) hints) was.1.true shown)),
+              net low level place clause rests (shown_true was.1.valuation clauses count clause hints was.1.true shown)),
         )
 
     place_again : (place : ℕ) → place < length circuit.gates

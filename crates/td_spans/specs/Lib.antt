@@ -5,6 +5,7 @@ pub mod Bounds
 pub mod Times
 pub mod Changing
 pub mod Sayings
+pub mod Packing
 pub mod Rules
 pub mod Timed
 pub mod Signals

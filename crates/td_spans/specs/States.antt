@@ -8,7 +8,7 @@ use Rattle.td_spans.specs.declared.variable.Variable.{Variable}
 
 -- the variables
 abbrev pub variables_in : Spans → List Variable
-variables_in spans = spans.variables.items
+variables_in spans = spans.variables
 
 -- the times of all nets
 abbrev pub times_in : Spans → List Times

@@ -8,6 +8,7 @@ use crate::gate_clauses::is_level;
 use crate::net_clauses::level_is;
 use crate::sayings::variable_of;
 use crate::variable::Variable;
+use crate::variables::Variables;
 use td_gates::Level;
 use td_propagation::Literal;
 
@@ -130,7 +131,7 @@ fn keeps_two(
 }
 
 /// Whether it is a clause of a condition.
-pub fn is_keep_clause(keep: &[Condition], variables: &[Variable], clause: &[Literal]) -> bool
+pub fn is_keep_clause(keep: &[Condition], variables: &Variables, clause: &[Literal]) -> bool
     ensures { result ≡ is_keep_clause keep.now variables.now clause.now }
 {
     if clause.len() == 1 {

@@ -15,6 +15,7 @@ use crate::rules::{gate_at, steps_to};
 use crate::sayings::{covers, is_by, says};
 use crate::times::Times;
 use crate::variable::{Saying, Variable};
+use crate::variables::Variables;
 use crate::walk::{Walk, is_covered, walked};
 use td_circuit::{Circuit, Gate};
 use td_gates::{Counts, Level, eval_counts};
@@ -57,13 +58,7 @@ fn said_at(saying: Option<Saying>, net: u32, place: u128) -> Option<Level>
 }
 
 // The level that a net has at a place where all of these literals are false.
-fn trit_by(
-    variables: &[Variable],
-    times: &[Times],
-    body: &[Literal],
-    net: u32,
-    place: u128,
-) -> Level
+fn trit_by(variables: &Variables, times: &[Times], body: &[Literal], net: u32, place: u128) -> Level
     ensures { result ≡ trit_by variables.now times.now body.now net place }
 {
     for literal in body {
@@ -77,7 +72,7 @@ fn trit_by(
 
 // How many of a gate's inputs are at each level at a place.
 fn counts_at(
-    variables: &[Variable],
+    variables: &Variables,
     times: &[Times],
     body: &[Literal],
     inputs: &[u32],
@@ -107,7 +102,7 @@ pub fn is_level(bit: bool, level: Level) -> bool
 
 // Whether a gate's target surely is at a level at a place.
 fn is_known(
-    variables: &[Variable],
+    variables: &Variables,
     times: &[Times],
     gate: &Gate,
     body: &[Literal],
@@ -168,7 +163,7 @@ fn last_by(last: Option<u64>, place: u128, saying: Option<Saying>) -> Option<u64
 
 // Up to which place nothing changes of what literals say that are false.
 fn stretch_last(
-    variables: &[Variable],
+    variables: &Variables,
     times: &[Times],
     place: u128,
     body: &[Literal],
@@ -195,7 +190,7 @@ fn next_after(last: Option<u64>) -> Option<u128>
 
 // Whether a gate's output surely is as a saying says, where all of these literals are false.
 fn is_sure(
-    variables: &[Variable],
+    variables: &Variables,
     times: &[Times],
     gate: &Gate,
     body: &[Literal],
@@ -232,7 +227,7 @@ fn is_sure(
 // Whether a gate gives the clause with this head.
 fn is_gate_clause(
     circuit: &Circuit,
-    variables: &[Variable],
+    variables: &Variables,
     times: &[Times],
     head: Literal,
     body: &[Literal],
@@ -251,7 +246,7 @@ fn is_gate_clause(
 /// Whether a gate gives the clause.
 pub fn is_by_gate(
     circuit: &Circuit,
-    variables: &[Variable],
+    variables: &Variables,
     times: &[Times],
     clause: &[Literal],
 ) -> bool

@@ -1,6 +1,6 @@
 //! Clauses by number, and hints that name them.
 
-ghost use Rattle.std.specs.Prelude.{◌≡◌, ◌-◌, map, length, OnOk};
+ghost use Rattle.std.specs.Prelude.{◌≡◌};
 ghost use Rattle.td_propagation.specs.Lists.{list_of};
 ghost use Rattle.td_spans.specs.Endings.{is_nil, ends_empty};
 
@@ -8,26 +8,12 @@ use crate::fault::Fault;
 use std::alloc::{AllocError, Global};
 use td_propagation::{Clauses, Literal, Outcome};
 
-/// Clauses by number, from 0 on in the order in which they came, and room for hints that name them.
+/// Clauses by number, from 0 on in the order in which they came, and whether the last is empty.
 #[derive(Drop)]
 pub struct Lemmas {
     clauses: Clauses,
-    count: u64,
-    back: Vec<u64>,
     empty: bool,
-    ghost counted: { count ≡ length (list_of clauses) },
     ghost ended: { empty ≡ ends_empty (list_of clauses) },
-}
-
-// By how many clauses those that hints name come before the next one.
-fn count_back(count: u64, hints: &[u64], back: &mut Vec<u64>) -> Result<(), AllocError>
-    ensures { OnOk result (back.new.items ≡ map (λ hint. count - hint) hints.now) }
-{
-    back.clear();
-    for hint in hints {
-        back.push(count.saturating_sub(*hint))?;
-    }
-    Ok(())
 }
 
 // Whether a clause has no literal.
@@ -51,8 +37,6 @@ impl Lemmas {
         let clauses = Clauses::new(alloc, 0)?;
         Ok(Lemmas {
             clauses,
-            count: 0,
-            back: Vec::new(alloc),
             empty: false,
         })
     }
@@ -73,8 +57,7 @@ impl Lemmas {
         ensures clauses { clauses_of self.new ≡ clauses_of self.old }
         ensures variables { variables_of self.new ≡ variables_of self.old }
     {
-        count_back(self.count, hints, &mut self.back)?;
-        let outcome = self.clauses.show(clause, &self.back)?;
+        let outcome = self.clauses.show(clause, hints)?;
         match outcome {
             Outcome::Shown => Ok(()),
             Outcome::NoSuchHint => Err(Fault::NotGood),
@@ -89,11 +72,7 @@ impl Lemmas {
         ensures same { OnErr result (clauses_of self.new ≡ clauses_of self.old) }
         ensures variables { variables_of self.new ≡ variables_of self.old }
     {
-        let Some(count) = self.count.checked_add(1) else {
-            return Err(AllocError);
-        };
         self.clauses.add(clause)?;
-        self.count = count;
         self.empty = is_nil(clause);
         Ok(())
     }

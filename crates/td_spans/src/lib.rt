@@ -19,6 +19,7 @@ mod signals;
 mod spans;
 mod times;
 mod variable;
+mod variables;
 mod walk;
 
 pub use condition::{Condition, Form};

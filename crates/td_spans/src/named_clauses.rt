@@ -18,6 +18,7 @@ use crate::rules::gate_at;
 use crate::sayings::variable_of;
 use crate::times::Times;
 use crate::variable::Variable;
+use crate::variables::Variables;
 use std::alloc::{AllocError, Global};
 use td_circuit::{Circuit, Gate};
 use td_domain::Cube;
@@ -37,12 +38,12 @@ fn settled_net(last: bool, variable: Variable) -> Option<u32>
 }
 
 // The net of the variable of a literal.
-fn net_of(variables: &[Variable], last: bool, literal: Literal) -> Option<u32>
+fn net_of(variables: &Variables, last: bool, literal: Literal) -> Option<u32>
     ensures { result ≡ settled_net last (slice_get variables.now literal.variable) }
 {
     match variables.get(literal.variable as usize) {
         None => None,
-        Some(variable) => settled_net(last, *variable),
+        Some(variable) => settled_net(last, variable),
     }
 }
 
@@ -63,7 +64,7 @@ fn settled_at(settled: Option<u32>, level: bool, net: u32) -> Option<Level>
 }
 
 // The level at which a net starts, or ends, where all of these literals are false.
-fn settled_trit(variables: &[Variable], last: bool, body: &[Literal], net: u32) -> Level
+fn settled_trit(variables: &Variables, last: bool, body: &[Literal], net: u32) -> Level
     ensures { result ≡ settled_trit last variables.now body.now net }
 {
     for literal in body {
@@ -76,7 +77,7 @@ fn settled_trit(variables: &[Variable], last: bool, body: &[Literal], net: u32) 
 }
 
 // How many of a gate's inputs are settled at each level.
-fn settled_counts(variables: &[Variable], last: bool, body: &[Literal], inputs: &[u32]) -> Counts
+fn settled_counts(variables: &Variables, last: bool, body: &[Literal], inputs: &[u32]) -> Counts
     requires { length inputs.now ≤ 1023 }
     ensures counts { result ≡ counts_of (map (settled_trit last variables.now body.now) inputs.now) }
     ensures few { (level : LevelModel) → count_at result level ≤ 1023 }
@@ -89,7 +90,7 @@ fn settled_counts(variables: &[Variable], last: bool, body: &[Literal], inputs: 
 }
 
 // Whether a gate's table gives a bit for settled inputs.
-fn is_settled(variables: &[Variable], last: bool, gate: &Gate, bit: bool, body: &[Literal]) -> bool
+fn is_settled(variables: &Variables, last: bool, gate: &Gate, bit: bool, body: &[Literal]) -> bool
     requires takes { TakesInputs gate.now.kind (length gate.now.inputs.items) }
     requires few { length gate.now.inputs.items ≤ 1023 }
     ensures { result ≡ level_eq (level_from bit) (table gate.now.kind (map (settled_trit last variables.now body.now) gate.now.inputs.items)) }
@@ -117,7 +118,7 @@ fn settled_of(variable: Option<Variable>) -> Option<(bool, u32)>
 // Whether the table of the gate that drives a net gives the clause.
 fn is_by_table_of(
     circuit: &Circuit,
-    variables: &[Variable],
+    variables: &Variables,
     head: Literal,
     body: &[Literal],
     it: Option<(bool, u32)>,
@@ -140,7 +141,7 @@ fn is_by_table_of(
 }
 
 // Whether the table of a gate gives the clause.
-fn is_by_table(circuit: &Circuit, variables: &[Variable], clause: &[Literal]) -> bool
+fn is_by_table(circuit: &Circuit, variables: &Variables, clause: &[Literal]) -> bool
     ensures { IsTrue result ↔ IsByTable circuit.now variables.now clause.now }
 {
     if clause.is_empty() {
@@ -168,7 +169,7 @@ fn two_of(clause: &[Literal]) -> Option<(Literal, Literal)>
 }
 
 // Whether one net gives the clause.
-fn is_by_net(variables: &[Variable], times: &[Times], clause: &[Literal]) -> bool
+fn is_by_net(variables: &Variables, times: &[Times], clause: &[Literal]) -> bool
     ensures { result ≡ by_net variables.now times.now clause.now }
 {
     match two_of(clause) {
@@ -178,7 +179,7 @@ fn is_by_net(variables: &[Variable], times: &[Times], clause: &[Literal]) -> boo
 }
 
 /// Whether each literal has a variable.
-pub fn has_variables(variables: &[Variable], clause: &[Literal]) -> bool
+pub fn has_variables(variables: &Variables, clause: &[Literal]) -> bool
     ensures { result ≡ has_variables variables.now clause.now }
 {
     for literal in clause {
@@ -196,7 +197,7 @@ fn is_by(
     circuit: &Circuit,
     question: &Question,
     cube: &Cube,
-    variables: &[Variable],
+    variables: &Variables,
     times: &[Times],
     reason: Reason,
     clause: &[Literal],
@@ -225,7 +226,7 @@ pub fn is_named(
     circuit: &Circuit,
     question: &Question,
     cube: &Cube,
-    variables: &[Variable],
+    variables: &Variables,
     times: &[Times],
     reason: Reason,
     clause: &[Literal],

@@ -7,6 +7,7 @@ ghost use Rattle.td_spans.specs.Lowering.{is_at_rest, are_at_rest};
 use crate::sayings::{is_by, says, variable_of};
 use crate::times::Times;
 use crate::variable::{Saying, Variable};
+use crate::variables::Variables;
 use td_propagation::Literal;
 
 /// Whether a level is the other.
@@ -108,7 +109,7 @@ fn net_by(
 }
 
 /// Whether it is the clause of a net.
-pub fn is_net_clause(variables: &[Variable], times: &[Times], one: Literal, other: Literal) -> bool
+pub fn is_net_clause(variables: &Variables, times: &[Times], one: Literal, other: Literal) -> bool
     ensures { result ≡ is_net_clause variables.now times.now one other }
 {
     net_by(
@@ -138,25 +139,19 @@ fn is_at_rest(net: u32, level: bool, place: u64, positive: bool, variable: Varia
 }
 
 // Whether a literal says that a net is at rest.
-fn literal_rests(
-    variables: &[Variable],
-    net: u32,
-    level: bool,
-    place: u64,
-    literal: Literal,
-) -> bool
+fn literal_rests(variables: &Variables, net: u32, level: bool, place: u64, literal: Literal) -> bool
     ensures { result ≡ is_at_rest net level place literal.positive (slice_get variables.now literal.variable) }
 {
     match variables.get(literal.variable as usize) {
         None => false,
-        Some(variable) => is_at_rest(net, level, place, literal.positive, *variable),
+        Some(variable) => is_at_rest(net, level, place, literal.positive, variable),
     }
 }
 
 /// Whether each literal of a clause says that a net doesn't end at a level, or that it is at rest
 /// from a place on.
 pub fn are_at_rest(
-    variables: &[Variable],
+    variables: &Variables,
     net: u32,
     level: bool,
     place: u64,

@@ -8,6 +8,7 @@ use crate::net_clauses::level_is;
 use crate::sayings::variable_of;
 use crate::signals::{fixed_flip, is_held};
 use crate::variable::Variable;
+use crate::variables::Variables;
 use std::alloc::{AllocError, Global};
 use td_domain::{Admit, Cube, Trit};
 use td_propagation::Literal;
@@ -32,12 +33,12 @@ fn position_of(net: u32, side: u64, bit: bool) -> Option<(u64, bool)>
 }
 
 // The position and the bit that a literal says when it is denied.
-fn denied_bit(variables: &[Variable], literal: Literal) -> Option<(u64, bool)>
+fn denied_bit(variables: &Variables, literal: Literal) -> Option<(u64, bool)>
     ensures { result ≡ denied_bit literal.positive (slice_get variables.now literal.variable) }
 {
     match variables.get(literal.variable as usize) {
         None => None,
-        Some(variable) => match *variable {
+        Some(variable) => match variable {
             Variable::First(net) => position_of(net, 0, !literal.positive),
             Variable::Last(net) => position_of(net, 1, !literal.positive),
             Variable::Span(_saying) => None,
@@ -87,7 +88,7 @@ fn put_bit(cube: &mut Cube, bit: Option<(u64, bool)>) -> bool
 
 // Puts the bits that literals say when they are denied into the cube. Answers whether none
 // contradicts what stands there.
-fn narrow(variables: &[Variable], clause: &[Literal], cube: &mut Cube) -> bool
+fn narrow(variables: &Variables, clause: &[Literal], cube: &mut Cube) -> bool
     ensures { narrowed variables.now cube.old clause.now ≡ (if result then Some cube.new else Nothing) }
 {
     for literal in clause {
@@ -161,7 +162,7 @@ fn flips_at(same: bool, flips: Option<(u32, u64)>) -> Option<(u32, u64)>
 }
 
 // What the first literal with this sign counts.
-fn first_flips(sign: bool, variables: &[Variable], clause: &[Literal]) -> Option<(u32, u64)>
+fn first_flips(sign: bool, variables: &Variables, clause: &[Literal]) -> Option<(u32, u64)>
     ensures { (rest : ℕ × ℕ) → first_flips sign variables.now clause.now rest ≡ unwrap_or result rest }
 {
     for literal in clause {
@@ -217,7 +218,7 @@ pub fn is_pairs_clause(
     inputs: u32,
     admit: &Admit,
     cube: &Cube,
-    variables: &[Variable],
+    variables: &Variables,
     clause: &[Literal],
 ) -> Result<bool, AllocError>
     ensures { IfOk result (λ answer. answer ≡ is_pairs_clause inputs admit.now cube.now variables.now clause.now) }

@@ -7,6 +7,7 @@ ghost use Rattle.td_spans.specs.Clauses.{covers};
 
 use crate::times::Times;
 use crate::variable::{Saying, Variable};
+use crate::variables::Variables;
 use td_propagation::Literal;
 
 /// Whether the place isn't after the last one, where there is one.
@@ -57,12 +58,12 @@ fn end_saying(times: &[Times], net: u32, level: bool) -> Option<Saying>
 }
 
 /// What a literal says.
-pub fn says(variables: &[Variable], times: &[Times], literal: Literal) -> Option<Saying>
+pub fn says(variables: &Variables, times: &[Times], literal: Literal) -> Option<Saying>
     ensures { result ≡ says variables.now times.now literal }
 {
     match variables.get(literal.variable as usize) {
         None => None,
-        Some(variable) => match *variable {
+        Some(variable) => match variable {
             Variable::First(net) => start_saying(times, net, literal.positive),
             Variable::Last(net) => end_saying(times, net, literal.positive),
             Variable::Span(saying) => { if literal.positive { Some(saying) } else { None } }
@@ -72,11 +73,8 @@ pub fn says(variables: &[Variable], times: &[Times], literal: Literal) -> Option
 }
 
 /// The variable of a literal.
-pub fn variable_of(variables: &[Variable], literal: Literal) -> Option<Variable>
+pub fn variable_of(variables: &Variables, literal: Literal) -> Option<Variable>
     ensures { result ≡ slice_get variables.now literal.variable }
 {
-    match variables.get(literal.variable as usize) {
-        None => None,
-        Some(variable) => Some(*variable),
-    }
+    variables.get(literal.variable as usize)
 }

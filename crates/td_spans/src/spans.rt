@@ -14,6 +14,7 @@ use crate::rules::{gate_at, time_of, times_again};
 use crate::signals::first_times;
 use crate::times::Times;
 use crate::variable::Variable;
+use crate::variables::Variables;
 use std::alloc::{AllocError, Global};
 use td_circuit::Circuit;
 use td_domain::Cube;
@@ -22,7 +23,7 @@ use td_propagation::Literal;
 /// Variables, the times of all nets as steps have left them, and the clauses that they have added.
 #[derive(Drop)]
 pub struct Spans {
-    variables: Vec<Variable>,
+    variables: Variables,
     times: Vec<Times>,
     clauses: Lemmas,
 }
@@ -79,7 +80,7 @@ impl Spans {
         let times = first_times(alloc, circuit, question.admit(), cube)?;
         let clauses = Lemmas::new(alloc)?;
         Ok(Spans {
-            variables: Vec::new(alloc),
+            variables: Variables::new(alloc),
             times,
             clauses,
         })
@@ -94,10 +95,15 @@ impl Spans {
         ensures times { times_in self.new ≡ times_in self.old }
         ensures clauses { clauses_in self.new ≡ clauses_in self.old }
     {
-        self.variables.reserve(1)?;
-        self.clauses.add_variable()?;
-        self.variables.push_reserved(variable);
-        Ok(())
+        let count = self.variables.len();
+        self.variables.push(variable)?;
+        match self.clauses.add_variable() {
+            Ok(()) => Ok(()),
+            Err(error) => {
+                self.variables.truncate(count);
+                Err(error)
+            }
+        }
     }
 
     // Adds a clause for which there is a reason.

@@ -1,5 +1,5 @@
 -- A tree of one leaf, which steps refute.
-use Rattle.std.proofs.Common.{◌≡◌, ◌∙◌, ℕ, ◌<◌, ◌≤◌, ◌^◌, Bool, List, [], ◌∷◌, length, refl, sym, ap, subst, arith}
+use Rattle.std.proofs.Common.{◌≡◌, ◌∙◌, ℕ, ◌<◌, ◌≤◌, ◌^◌, Bool, true, List, [], ◌∷◌, length, refl, sym, ap, subst, arith}
 use Rattle.std.proofs.lemmas.List.Elements.{recursion_from_All}
 use Rattle.std.specs.List.{AllByRecursion}
 use Rattle.td_domain.specs.Pairs.{Pair}
@@ -11,7 +11,11 @@ use Rattle.td_certificate.specs.declared.tree.Node.{Node}
 use Rattle.td_certificate.specs.declared.tree.Node.TheVariants.{Refuted}
 use Rattle.td_certificate.specs.Accepts.{IsGood}
 use Rattle.td_certificate.specs.Spelling.{HasSpelling, IsNode, version_in}
-use Rattle.td_certificate.specs.Trees.{IsTree}
+use Rattle.std.specs.Prelude.{Option}
+use Rattle.td_certificate.specs.Questions.{Terms}
+use Rattle.td_certificate.specs.Lengths.{CanTell}
+use Rattle.td_certificate.specs.Trees.{IsTree, has_refuted}
+use Rattle.td_certificate.proofs.Told.{is_fourth, are_terms, have_few, one_moment}
 use Rattle.td_certificate.specs.Walks.{lines_from}
 use Rattle.td_certificate.proofs.Lengths.{refuted_texts_fit}
 use Rattle.td_refute.specs.declared.refuting.Refuted as found
@@ -19,7 +23,7 @@ use Rattle.td_refute.specs.Answers.{IsShown}
 use Rattle.td_search.proofs.Capped.{capped, refuted_fewer}
 use Rattle.td_search.specs.declared.answers.Answer.TheVariants as answer
 use Rattle.td_search.specs.Problems.{Problem}
-use Rattle.td_search.specs.Answers.{certificate_of, IsExact}
+use Rattle.td_search.specs.Answers.{question_by, certificate_by, IsExact}
 use Rattle.td_search.specs.Written.{CanBeWritten}
 use Rattle.td_worst.specs.Leaves.{leaf_of, IsLeafOf, IsSpellable}
 use Rattle.td_worst.specs.Methods.{IsSoundAnswer}
@@ -66,20 +70,33 @@ module _ (asked : Problem) (budget : ℕ) (some : 0 < budget) (sizes : IsSpellab
     small = small;
   }
 
-  spelled : HasSpelling (certificate_of asked time pair tree)
-  spelled = record {
+  -- its one leaf is refuted
+  leaf_refuted : has_refuted tree ≡ true
+  leaf_refuted = ap has_refuted leaf.is
+
+  spelled : (terms : Option Terms) → CanTell tree terms → HasSpelling (certificate_by terms asked time pair tree)
+  spelled terms can = record {
     inputs = omega (arith, sizes.inputs, sizes.held);
     gates = sizes.gates;
     pins = sizes.pins;
     flips = omega arith;
     count = sizes.moments.count ∙ sym sizes.held;
     moments = recursion_from_All _ asked.setting.moments sizes.moments.within;
+    terms = are_terms terms tree can;
     time = omega (arith, small);
+    high = one_moment (version_in (certificate_by terms asked time pair tree)) time time refl (omega (arith, small));
     first = long.0;
     second = long.1;
-    nodes = subst (λ (nodes : List Node). AllByRecursion (IsNode (version_in (certificate_of asked time pair tree))) nodes) (sym leaf.is) (leaf.spelled, tt);
+    nodes = subst (λ (nodes : List Node). AllByRecursion (IsNode (version_in (certificate_by terms asked time pair tree))) nodes) (sym leaf.is)
+        ((leaf.spelled, is_fourth terms tree (question_by terms asked).admit (question_by terms asked).moments can leaf_refuted), tt);
     tree = leaf_tree refuted tree leaf.is;
   }
 
   pub exact_reported : IsSoundAnswer asked budget (answer.Exact time pair tree) × CanBeWritten asked (answer.Exact time pair tree)
-  exact_reported = (is_exact, (spelled, refuted_texts_fit (certificate_of asked time pair tree) (leaf_of refuted) spelled small leaf.is leaf.few))
+  exact_reported = (
+    is_exact,
+    λ terms can. (
+      spelled terms can,
+      refuted_texts_fit (certificate_by terms asked time pair tree) (leaf_of refuted) (spelled terms can) (have_few terms tree can) small small leaf.is leaf.few,
+    ),
+  )

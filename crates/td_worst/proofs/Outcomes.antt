@@ -4,7 +4,9 @@ use Rattle.td_search.specs.declared.answers.Answer.{Answer}
 use Rattle.td_search.specs.declared.answers.Answer.TheVariants as answer
 use Rattle.td_search.specs.declared.strategy.Strategy.{Strategy}
 use Rattle.td_search.specs.Problems.{Problem}
-use Rattle.td_search.specs.Answers.{IsAnswer}
+use Rattle.td_search.specs.Answers.{IsAnswer, IsSearchFault}
+use Rattle.td_search.specs.declared.answers.SearchFault.{SearchFault}
+use Rattle.td_search.specs.declared.answers.SearchFault.TheVariants as fault
 use Rattle.td_search.specs.Written.{CanBeWritten}
 use Rattle.td_worst.specs.declared.method.Method.{Method}
 use Rattle.td_worst.specs.declared.method.Method.TheVariants as method
@@ -69,3 +71,8 @@ pub written_alike : (asked : Problem) (strategy : Strategy) (found : Answer) →
     → CanBeWritten (record asked { strategy = strategy }) found
 written_alike asked strategy (answer.Exact time pair tree) is = is
 written_alike asked strategy (answer.Between low high pair nodes why) is = tt
+
+pub fault_alike : (asked : Problem) (strategy : Strategy) (reported : SearchFault) → IsSearchFault asked reported
+    → IsSearchFault (record asked { strategy = strategy }) reported
+fault_alike asked strategy fault.OutOfMemory is = tt
+fault_alike asked strategy fault.NoPair is = is

@@ -1,6 +1,7 @@
 //! What two searches of one question know together.
 
-ghost use Rattle.std.specs.Prelude.{◌≡◌, ◌⊎◌, ◌+◌, ◌≤◌, ℕ, Bool};
+ghost use Rattle.std.specs.Prelude.{◌≡◌, ◌⊎◌, ◌+◌, ◌≤◌, ℕ, Bool, true};
+ghost use Rattle.td_search.specs.declared.answers.Cause.TheVariants as cause;
 ghost use Rattle.td_search.specs.Problems.{Problem as Asked};
 ghost use Rattle.td_search.specs.Written.{CanBeWritten};
 ghost use Rattle.td_search.specs.Answers.{TimeNeedsStop, low_of};
@@ -9,7 +10,7 @@ ghost use Rattle.td_worst.specs.OpenAnswer.{IsOpenAnswer};
 
 use crate::refuting::OpenAnswer;
 use td_lead::Timed;
-use td_search::Answer;
+use td_search::{Answer, Cause};
 
 /// What two searches of one question know together: an answer that is exact, or else the better
 /// pair and the lesser bound.
@@ -27,21 +28,21 @@ pub fn combined(first: Answer, second: Answer) -> Answer
             high,
             pair,
             nodes,
-            ..
+            cause,
         } => {
             let best = Timed { pair, time: low };
-            with_second(OpenAnswer { best, high, nodes }, second)
+            with_second(OpenAnswer { best, high, nodes }, cause, second)
         }
     }
 }
 
-// As `combined`, where this is known of a first search.
-fn with_second(first: OpenAnswer, second: Answer) -> Answer
+// As `combined`, where this is known of a first search, and why it ended.
+fn with_second(first: OpenAnswer, why: Cause, second: Answer) -> Answer
     ensures answer { (asked : Asked) (budget more : ℕ) → IsOpenAnswer asked budget first → IsSoundAnswer asked more second → CanBeWritten asked second
         → IsSoundAnswer asked (budget + more) result × CanBeWritten asked result }
     ensures narrower { (asked : Asked) (budget more : ℕ) → IsOpenAnswer asked budget first → IsSoundAnswer asked more second
         → (first.best.time ≤ low_of result) × (high_of result ≤ first.high) × IsNarrower second result }
-    ensures time { (can_be_set : Bool) → TimeNeedsStop can_be_set second → TimeNeedsStop can_be_set result }
+    ensures time { (can_be_set : Bool) → (why ≡ cause.Time → can_be_set ≡ true) → TimeNeedsStop can_be_set second → TimeNeedsStop can_be_set result }
 {
     match second {
         Answer::Exact { time, pair, tree } => Answer::Exact { time, pair, tree },
@@ -63,8 +64,19 @@ fn with_second(first: OpenAnswer, second: Answer) -> Answer
                 high: high.min(first_high),
                 nodes: nodes.saturating_add(first_nodes),
             }
-            .between(cause)
+            .between(cause_of_both(why, cause))
         }
+    }
+}
+
+// The budget only where it is the cause of both, else the other cause, the second's of two.
+fn cause_of_both(first: Cause, second: Cause) -> Cause
+    ensures { (result ≡ first) ⊎ (result ≡ second) }
+{
+    if second == Cause::Budget {
+        first
+    } else {
+        second
     }
 }
 

@@ -1,6 +1,6 @@
 //! What a refutation makes of an answer.
 
-ghost use Rattle.std.specs.Prelude.{◌≡◌, true, ◌<◌, ◌≤◌, ◌^◌, ℕ, IfOk, IfSome};
+ghost use Rattle.std.specs.Prelude.{◌≡◌, Bool, true, ◌<◌, ◌≤◌, ◌^◌, ℕ, IfOk, IfSome};
 ghost use Rattle.td_circuit.specs.Numbering.{setting};
 ghost use Rattle.td_lead.specs.Timed.{IsTimed};
 ghost use Rattle.td_refute.specs.Answers.{IsShown};
@@ -15,20 +15,24 @@ ghost use Rattle.td_worst.specs.OpenAnswer.{IsOpenAnswer};
 
 use crate::leaf::tree_of_leaf;
 use std::alloc::{AllocError, Global};
+use std::thread::Threads;
 use td_event_sim::Scratch;
 use td_lead::Timed;
-use td_refute::{Effort, Refuted, refute};
+use td_refute::{Effort, Ending, Refuted, Sought, refute};
 use td_search::{Answer, Cause, Problem};
 use td_stop::Stop;
 
-// Why a refutation ends that shows no more: the time where the stop is set, else the budget.
-fn ending(stop: &Stop) -> Cause
+// Why a search ends that shows no more: the time where the stop is set, the budget where it was
+// reached, else the memory that it would need.
+fn cause_of(ending: Ending, stop: &Stop) -> Cause
     ensures { result ≡ cause.Time → stop.now.can_be_set ≡ true }
 {
     if stop.is_set() {
-        Cause::Time
-    } else {
-        Cause::Budget
+        return Cause::Time;
+    }
+    match ending {
+        Ending::Work => Cause::Budget,
+        _ => Cause::Memory,
     }
 }
 
@@ -57,25 +61,25 @@ impl OpenAnswer {
         }
     }
 
-    // The answer where steps show a bound.
-    fn refuted(self, alloc: Global, refuted: &Refuted, stop: &Stop) -> Answer
+    // The answer where steps show a bound, and no more for this cause.
+    fn refuted(self, alloc: Global, refuted: &Refuted, why: Cause) -> Answer
         requires small { self.best.time < 10 ^ 15 }
         ensures answer { (asked : Asked) (budget : ℕ) → 0 < budget → IsSpellable asked → IsOpenAnswer asked budget self
             → IsShown asked.setting asked.admit refuted.now → IsSoundAnswer asked budget result × CanBeWritten asked result }
         ensures low { low_of result ≡ self.best.time }
         ensures high { self.best.time ≤ self.high → high_of result ≤ self.high }
-        ensures time { TimeNeedsStop stop.now.can_be_set result }
+        ensures time { (can_be_set : Bool) → (why ≡ cause.Time → can_be_set ≡ true) → TimeNeedsStop can_be_set result }
     {
         let OpenAnswer { best, high, nodes } = self;
         let Timed { pair, time } = best;
         if refuted.bound > time {
             let best = Timed { pair, time };
             let high = high.min(refuted.bound);
-            return OpenAnswer { best, high, nodes }.between(ending(stop));
+            return OpenAnswer { best, high, nodes }.between(why);
         }
         let cause = match tree_of_leaf(alloc, refuted) {
             Ok(Some(tree)) => return Answer::Exact { time, pair, tree },
-            Ok(None) => Cause::Budget,
+            Ok(None) => Cause::Memory,
             Err(_) => Cause::Memory,
         };
         let best = Timed { pair, time };
@@ -89,15 +93,15 @@ impl OpenAnswer {
 }
 
 /// What a refutation makes of an answer. An exact answer stays as it is. The search ends after as
-/// many units of work as the budget says, or once the stop is set. Where memory runs out, what was
+/// many units of work as its effort says, or once its stop is set. Where memory runs out, what was
 /// known stands.
-pub fn refuted_further(
+pub fn refuted_further<R: Threads + Sync>(
+    rt: &R,
     alloc: Global,
     problem: &Problem<'_>,
     known: Answer,
     budget: u64,
-    work: u64,
-    stop: &Stop,
+    effort: Effort<'_>,
 ) -> Answer
     requires some { 0 < budget }
     requires known { IsSoundAnswer (problem_of problem.now) budget known }
@@ -105,7 +109,7 @@ pub fn refuted_further(
     ensures answer { IsSoundAnswer (problem_of problem.now) budget result }
     ensures text { CanBeWritten (problem_of problem.now) result }
     ensures narrower { IsNarrower known result }
-    ensures time { TimeNeedsStop stop.now.can_be_set result }
+    ensures time { TimeNeedsStop effort.entry.stop.now.can_be_set result }
 {
     match known {
         Answer::Exact { time, pair, tree } => Answer::Exact { time, pair, tree },
@@ -117,26 +121,20 @@ pub fn refuted_further(
             ..
         } => {
             let best = Timed { pair, time: low };
-            refute_open_answer(
-                alloc,
-                problem,
-                OpenAnswer { best, high, nodes },
-                budget,
-                work,
-                stop,
-            )
+            let open = OpenAnswer { best, high, nodes };
+            refute_open_answer(rt, alloc, problem, open, budget, effort)
         }
     }
 }
 
 // What a refutation makes of what is known.
-fn refute_open_answer(
+fn refute_open_answer<R: Threads + Sync>(
+    rt: &R,
     alloc: Global,
     problem: &Problem<'_>,
     known: OpenAnswer,
     budget: u64,
-    work: u64,
-    stop: &Stop,
+    effort: Effort<'_>,
 ) -> Answer
     requires some { 0 < budget }
     requires known { IsOpenAnswer (problem_of problem.now) budget known }
@@ -144,42 +142,50 @@ fn refute_open_answer(
     ensures text { CanBeWritten (problem_of problem.now) result }
     ensures low { known.best.time ≤ low_of result }
     ensures high { high_of result ≤ known.high }
-    ensures time { TimeNeedsStop stop.now.can_be_set result }
+    ensures time { TimeNeedsStop effort.entry.stop.now.can_be_set result }
 {
     // For the prover: the circuit's and the pins' sizes.
     let _gates = problem.circuit.gates();
     let _moments = problem.circuit.moments();
     let _pins = problem.admit.pins();
     let mut known = known;
-    match search(alloc, problem, &mut known.best, work, stop) {
-        Ok(Some(refuted)) => known.refuted(alloc, &refuted, stop),
-        Ok(None) => known.between(ending(stop)),
+    let (found, why) = search(rt, alloc, problem, &mut known.best, effort);
+    match found {
+        Ok(Some(refuted)) => known.refuted(alloc, &refuted, why),
+        Ok(None) => known.between(why),
         Err(_) => known.between(Cause::Memory),
     }
 }
 
-// Searches for a refutation, from the best pair on. The error is out of memory.
-fn search(
+// Searches for a refutation, from the best pair on. Says why it shows no more. The error is out of
+// memory.
+fn search<R: Threads + Sync>(
+    rt: &R,
     alloc: Global,
     problem: &Problem<'_>,
     best: &mut Timed,
-    work: u64,
-    stop: &Stop,
-) -> Result<Option<Refuted>, AllocError>
+    effort: Effort<'_>,
+) -> (Result<Option<Refuted>, AllocError>, Cause)
     requires best { IsTimed (setting problem.now.circuit.now) problem.now.admit.now best.old }
     ensures best { IsTimed (setting problem.now.circuit.now) problem.now.admit.now best.new }
     ensures no_less { best.old.time ≤ best.new.time }
-    ensures shown { IfOk result (λ found. IfSome found (IsShown (setting problem.now.circuit.now) problem.now.admit.now)) }
+    ensures shown { IfOk result.0 (λ found. IfSome found (IsShown (setting problem.now.circuit.now) problem.now.admit.now)) }
+    ensures cause { result.1 ≡ cause.Time → effort.entry.stop.now.can_be_set ≡ true }
 {
-    let mut scratch = Scratch::new(alloc, problem.circuit)?;
-    let mut effort = Effort::until(stop);
-    effort.work = work;
-    refute(
+    let Ok(mut scratch) = Scratch::new(alloc, problem.circuit) else {
+        return (Err(AllocError), Cause::Memory);
+    };
+    let stop = effort.stop;
+    match refute(
+        rt,
         alloc,
         &mut scratch,
         problem.circuit,
         problem.admit,
         best,
         effort,
-    )
+    ) {
+        Ok(Sought { refuted, ending }) => (Ok(refuted), cause_of(ending, stop)),
+        Err(error) => (Err(error), Cause::Memory),
+    }
 }

@@ -16,6 +16,7 @@ use std::thread::Threads;
 use td_circuit::Circuit;
 use td_domain::Admit;
 use td_pool::{Effort, Limits, Watch, search};
+use td_refute::Effort as Refuting;
 use td_search::{Answer, Cause, Own, Problem, SearchFault, Strategy};
 
 /// How many nodes a tree has at most, and how many gates, at most, all its nodes together: a node
@@ -86,7 +87,7 @@ pub fn worst_until<W: Watch, R: Threads + Wait + Sync>(
     }
 }
 
-// Climbs and bounds the pins, as a tree of one node does, and then searches for a refutation.
+// Bounds the pins, as a tree without nodes does, and then searches for a refutation.
 fn by_refutation<W: Watch, R: Threads + Wait + Sync>(
     rt: &R,
     alloc: Global,
@@ -102,18 +103,45 @@ fn by_refutation<W: Watch, R: Threads + Wait + Sync>(
     ensures fault { IfErr result (IsSearchFault (problem_by strategy.Lead circuit.now admit.now)) }
     ensures reported { W.reported (problem_by strategy.Lead circuit.now admit.now) watch.old watch.new }
 {
+    let Limits { effort, .. } = limits;
+    let budget = effort.budget;
+    let none = with_nodes(limits, 0);
+    let known = bounded(rt, alloc, circuit, admit, none, watch)?;
+    if budget == 0 {
+        return Ok(known);
+    }
     let problem = Problem {
         circuit,
         admit,
         strategy: Strategy::Lead,
     };
-    let Limits { effort, stop } = limits;
-    let first = with_nodes(limits, effort.budget.min(1));
-    let known = search(rt, alloc, &problem, &Own, first, watch)?;
-    if effort.budget == 0 {
-        return Ok(known);
-    }
-    Ok(refuted_further(alloc, &problem, known, effort.budget, effort.budget, stop))
+    let further = with_work(limits, budget);
+    Ok(refuted_further(rt, alloc, &problem, known, budget, further))
+}
+
+// What a tree by `Least` comes to, which climbs to no pair.
+fn bounded<W: Watch, R: Threads + Wait + Sync>(
+    rt: &R,
+    alloc: Global,
+    circuit: &Circuit,
+    admit: &Admit,
+    limits: Limits<'_>,
+    watch: &mut W,
+) -> Result<Answer, SearchFault>
+    requires held { length admit.now.held ≡ length circuit.now.netlist.inputs }
+    ensures answer { IfOk result (λ found. (budget : ℕ) → limits.entry.effort.budget ≤ budget → IsSoundAnswer (problem_by strategy.Lead circuit.now admit.now) budget found) }
+    ensures text { IfOk result (CanBeWritten (problem_by strategy.Lead circuit.now admit.now)) }
+    ensures time { IfOk result (TimeNeedsStop limits.entry.stop.now.can_be_set) }
+    ensures fault { IfErr result (IsSearchFault (problem_by strategy.Lead circuit.now admit.now)) }
+    ensures reported { W.reported (problem_by strategy.Lead circuit.now admit.now) watch.old watch.new }
+{
+    let problem = Problem {
+        circuit,
+        admit,
+        strategy: Strategy::Least,
+    };
+    let found = search(rt, alloc, &problem, &Own, limits, watch)?;
+    Ok(found)
 }
 
 // Searches a tree by `Least`, then one by `Lead`, then for a refutation, and then a larger tree by
@@ -138,7 +166,7 @@ fn by_all<W: Watch, R: Threads + Wait + Sync>(
         admit,
         strategy: Strategy::Least,
     };
-    let Limits { effort, stop } = limits;
+    let Limits { effort, .. } = limits;
     let budget = effort.budget;
     let nodes = nodes_of(circuit, FIRST, budget);
     let first = with_nodes(limits, nodes);
@@ -152,8 +180,9 @@ fn by_all<W: Watch, R: Threads + Wait + Sync>(
     let second = with_nodes(limits, more);
     let led = led_further(rt, alloc, circuit, admit, known, second, watch);
     let work = left - more - most;
-    let shown = refuted_further(alloc, &problem, led, nodes + more, work, stop);
-    if !is_open(&shown) {
+    let further = with_work(limits, work);
+    let shown = refuted_further(rt, alloc, &problem, led, nodes + more, further);
+    if is_exact(&shown) {
         return Ok(shown);
     }
     let last = with_nodes(limits, most);
@@ -175,6 +204,17 @@ fn with_nodes(limits: Limits<'_>, budget: u64) -> Limits<'_>
     Limits { effort, stop }
 }
 
+// The effort of as many workers for a refutation, with so much work.
+fn with_work(limits: Limits<'_>, work: u64) -> Refuting<'_>
+    ensures stop { result.stop.now ≡ limits.entry.stop.now }
+{
+    let Limits { effort, stop } = limits;
+    let mut further = Refuting::until(stop);
+    further.work = work;
+    further.workers = effort.workers;
+    further
+}
+
 // How many of the nodes that are left a tree with this share has, one at least where one is left.
 fn nodes_of(circuit: &Circuit, share: Share, left: u64) -> u64
     ensures few { result ≤ left }
@@ -189,6 +229,13 @@ fn is_open(answer: &Answer) -> bool {
     match answer {
         Answer::Exact { .. } => false,
         Answer::Between { cause, .. } => *cause == Cause::Budget,
+    }
+}
+
+fn is_exact(answer: &Answer) -> bool {
+    match answer {
+        Answer::Exact { .. } => true,
+        Answer::Between { .. } => false,
     }
 }
 

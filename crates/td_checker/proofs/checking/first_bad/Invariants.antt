@@ -11,6 +11,6 @@ abbrev pub invariant-loop-node : goal.invariant-loop-node
 invariant-loop-node l = record {
   walk : IsWalked l.certificate l.node-index l.walk.cube (reverse l.walk.path.items);
   scratch : IsFor l.circuit l.scratch;
-  good : AllByRecursion (IsGood (setting l.circuit) l.certificate.question.admit l.certificate.time) (take l.node-index (lines_in l.certificate));
+  good : AllByRecursion (IsGood (setting l.circuit) l.certificate.question.admit l.certificate.high) (take l.node-index (lines_in l.certificate));
   before : l.before ≡ line_total (take l.node-index (lines_in l.certificate));
 }

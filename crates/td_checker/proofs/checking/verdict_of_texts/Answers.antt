@@ -1,26 +1,26 @@
 use Rattle.std.proofs.lemmas.Result.{err_from_is_err_and}
-use Rattle.td_checker.proofs.Texts.{tells_worst, source_fault, certificate_fault, have_verdict}
+use Rattle.td_checker.proofs.Texts.{tells_truth, source_fault, certificate_fault, have_verdict}
 use Rattle.td_checker.proofs.checking.verdict_of_texts.Goals as goal
 
-pub returns-in_err-circuit-clause-fault : goal.returns-in_err-circuit-clause-fault
-returns-in_err-circuit-clause-fault c =
+pub returns-in_err-source-clause-fault : goal.returns-in_err-source-clause-fault
+returns-in_err-source-clause-fault c =
     let reported = err_from_is_err_and c.from_residual.result c.from_residual.ensures.1 in
-    rw (reported.1, reported.2) (source_fault c.args.netlist.now c.args.reading.now c.args.certificate.now c.in_err-circuit.field-0.0
-    c.in_err-circuit.ensures.fault)
+    rw (reported.1, reported.2) (source_fault c.args.netlist.now c.args.reading.now c.args.certificate.now c.in_err-source.field-0.0
+    c.in_err-source.ensures.fault)
 
 pub returns-in_err-spelled-clause-fault : goal.returns-in_err-spelled-clause-fault
 returns-in_err-spelled-clause-fault c =
     let reported = err_from_is_err_and c.from_residual-in_err-spelled.result c.from_residual-in_err-spelled.ensures.1 in
-    rw (reported.1, reported.2) (certificate_fault c.args.netlist.now c.args.reading.now c.args.certificate.now c.in_ok-circuit.circuit.netlist
-    c.in_err-spelled.field-0.0 c.in_ok-circuit.ensures.circuit c.in_err-spelled.ensures.fault)
+    rw (reported.1, reported.2) (certificate_fault c.args.netlist.now c.args.reading.now c.args.certificate.now c.in_ok-source.source.circuit.netlist
+    c.in_err-spelled.field-0.0 c.in_ok-source.ensures.circuit c.in_err-spelled.ensures.fault)
 
-pub returns-clause-worst : goal.returns-clause-worst
-returns-clause-worst c = λ accepted.
-    tells_worst c.args.netlist.now c.args.reading.now c.args.certificate.now c.in_ok-circuit.circuit.netlist c.in_ok-spelled.spelled
-    c.in_ok-verdict.verdict c.in_ok-circuit.ensures.circuit c.in_ok-circuit.ensures.formed c.in_ok-spelled.ensures.found
+pub returns-clause-truth : goal.returns-clause-truth
+returns-clause-truth c = λ accepted.
+    tells_truth c.args.netlist.now c.args.reading.now c.args.certificate.now c.in_ok-source.source.circuit.netlist c.in_ok-spelled.spelled
+    c.in_ok-verdict.verdict _ c.in_ok-source.ensures.circuit c.in_ok-source.ensures.formed c.in_ok-spelled.ensures.found
     c.in_ok-verdict.ensures accepted
 
 pub returns-clause-reported : goal.returns-clause-reported
 returns-clause-reported c =
-    have_verdict c.args.netlist.now c.args.reading.now c.args.certificate.now c.in_ok-circuit.circuit.netlist c.in_ok-spelled.spelled
-    c.in_ok-verdict.verdict c.in_ok-circuit.ensures.circuit c.in_ok-spelled.ensures.found c.in_ok-verdict.ensures
+    have_verdict c.args.netlist.now c.args.reading.now c.args.certificate.now c.in_ok-source.source.circuit.netlist c.in_ok-spelled.spelled
+    c.in_ok-verdict.verdict c.in_ok-source.source.output c.in_ok-source.ensures.output c.in_ok-source.ensures.circuit c.in_ok-spelled.ensures.found c.in_ok-verdict.ensures

@@ -1,7 +1,10 @@
-use Rattle.std.proofs.Common.{inr}
+use Rattle.std.proofs.Common.{inr, sym, ap, subst, ◌∙◌}
+use Rattle.std.specs.Prelude.{IfSome}
+use Rattle.td_certificate.specs.Spelling.{HasSpelling}
+use Rattle.td_search.specs.declared.strategy.Strategy.{Strategy}
 use Rattle.td_worst.specs.Methods.{tree_of}
 use Rattle.td_search.specs.Problems.{problem_by}
-use Rattle.td_cli.specs.WorstReports.{strategy_of}
+use Rattle.td_cli.specs.WorstReports.{strategy_of, certificate_in, CanBeTold}
 use Rattle.td_cli.proofs.Questions.{asked_held, asked_flips, no_search, certificate_spelled, pair_fits}
 use Rattle.td_cli.proofs.worst.worst.Goals as goal
 
@@ -23,7 +26,12 @@ found_of-requires-clause-second_fits g c = (pair_fits c.strategy_of-method.resul
 
 pub returns-clause-spelled : goal.returns-clause-spelled
 returns-clause-spelled g c =
-    rw c.in_ok-found.ensures.certified (certificate_spelled (problem_by (tree_of (strategy_of c.args.request.now.question.strategy)) c.in_ok-asked.asked.circuit c.in_ok-asked.asked.admit) c.in-Ok.answer c.in-Ok.ensures.text)
+    let by = tree_of (strategy_of c.args.request.now.question.strategy) in
+    let same = c.strategy.ensures ∙ ap tree_of c.strategy_of-method.ensures in
+    rw c.in_ok-found.ensures.certified
+    (subst (λ (s : Strategy). IfSome (certificate_in c.in_ok-asked.asked.read (problem_by s c.in_ok-asked.asked.circuit c.in_ok-asked.asked.admit) c.in-Ok.answer) HasSpelling) (sym same)
+    (certificate_spelled c.in_ok-asked.asked.read (problem_by by c.in_ok-asked.asked.circuit c.in_ok-asked.asked.admit) c.in-Ok.answer c.in-Ok.ensures.text
+    (subst (λ (s : Strategy). CanBeTold c.in_ok-asked.asked.read s c.in-Ok.answer) same c.in_ok-found.ensures.told)))
 
 pub returns-in-Err-clause-reported : goal.returns-in-Err-clause-reported
 returns-in-Err-clause-reported g c = inr (problem_by (tree_of (strategy_of c.args.request.now.question.strategy)) c.in_ok-asked.asked.circuit c.in_ok-asked.asked.admit, c.in_ok-asked.ensures.asked, rw c.strategy_of-method.ensures at c.worst-searched.ensures.reported)

@@ -36,7 +36,7 @@ returns-clause-joined c =
     let most = subst (λ (cs : List Certificate). (worst : Certificate) → slice_get cs c.greatest.result ≡ Some worst → All (λ d. d.time ≤ worst.time) cs)
     c.deref-2.ensures.value c.greatest.ensures.greatest in
     is_joined c.args.certificates.items c.args.gates c.args.question c.index-first.result.now c.greatest.result c.in_ok-pair.pair c.in_ok-nodes.nodes.items
-    c.from_nodes.result stands c.requires.alike (most c.index-first.result.now stands) c.in_ok-pair.ensures c.from_nodes.ensures joined
+    c.from_nodes.result stands c.requires.alike (most c.index-first.result.now stands) c.in_ok-pair.ensures c.from_nodes.ensures joined c.requires.terms c.requires.told c.requires.closed
 
 pub returns-clause-accepted : goal.returns-clause-accepted
 returns-clause-accepted c netlist all =
@@ -62,4 +62,4 @@ returns-in_err-without_false_none-clause-fault c =
     let said = subst (λ (cs : List Certificate). IsFalseNoneIn cs c.args.question c.in_err-without_false_none.field-0.0) c.deref.ensures.value
     c.in_err-without_false_none.ensures.fault in
     let seen = err_from_is_err_and c.from_residual.result c.from_residual.ensures.1 in
-    rw (seen.1, seen.2) (false_none c.args.certificates.items c.args.gates c.args.question c.requires.some c.requires.alike c.requires.fit _ said)
+    rw (seen.1, seen.2) (false_none c.args.certificates.items c.args.gates c.args.question c.requires.some c.requires.alike c.requires.fit c.requires.terms _ said)

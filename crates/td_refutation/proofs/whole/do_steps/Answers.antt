@@ -1,4 +1,4 @@
-use Rattle.std.proofs.Common.{◌≡◌, List, length, refl}
+use Rattle.std.proofs.Common.{length, refl}
 use Rattle.std.proofs.lemmas.Option.{slice_get_read}
 use Rattle.td_refutation.specs.Doing.{state_of, first_state}
 use Rattle.td_refutation.proofs.Lists.{led_mapped, stopped}

@@ -22,4 +22,4 @@ returns-in-Between-clause-narrower c = λ asked budget more is also.
     (rw c.in-Between.is (record { low = reported.0; high = reported.1 }), reported.2)
 
 pub returns-in-Between-clause-time : goal.returns-in-Between-clause-time
-returns-in-Between-clause-time c = λ can_be_set first second. c.with_second.ensures.time can_be_set second
+returns-in-Between-clause-time c = λ can_be_set first second. c.with_second.ensures.time can_be_set (rw c.in-Between.is at first) second

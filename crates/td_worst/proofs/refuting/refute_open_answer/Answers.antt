@@ -4,39 +4,47 @@ use Rattle.td_worst.proofs.Standings.{reported_between, with_best, best_small}
 use Rattle.td_worst.proofs.refuting.refute_open_answer.Goals as goal
 
 pub refuted-requires : goal.refuted-requires
-refuted-requires c = record {
+refuted-requires g c = record {
   small = best_small (problem_of c.args.problem.now) c.args.budget _
-      (with_best (problem_of c.args.problem.now) c.args.budget c.args.known _ c.requires.known c.in-Ok-Some.ensures.best);
+      (with_best (problem_of c.args.problem.now) c.args.budget c.args.known _ c.requires.known c.search-found.ensures.best);
 }
 
 pub returns-in-Ok-Some-clause-answer : goal.returns-in-Ok-Some-clause-answer
-returns-in-Ok-Some-clause-answer c =
+returns-in-Ok-Some-clause-answer g c =
     (c.refuted.ensures.answer (problem_of c.args.problem.now) c.args.budget c.requires.some (record {
       inputs = c.gates-gates.ensures.numbering.well_formed.few_inputs;
       gates = c.gates-gates.ensures.numbering.well_formed.few_gates;
       held = c.args.problem.now.held;
       pins = c.pins-pins.ensures.fit;
       moments = c.moments-moments.ensures.fit;
-    }) (with_best (problem_of c.args.problem.now) c.args.budget c.args.known _ c.requires.known c.in-Ok-Some.ensures.best)
-    (rw c.in-Ok-Some.field-0-is at c.in-Ok-Some.ensures.shown)).0
+    }) (with_best (problem_of c.args.problem.now) c.args.budget c.args.known _ c.requires.known c.search-found.ensures.best)
+    (rw (c.in-Ok-Some.is, c.in-Ok-Some.field-0-is) at c.search-found.ensures.shown)).0
 
 pub returns-in-Ok-Some-clause-text : goal.returns-in-Ok-Some-clause-text
-returns-in-Ok-Some-clause-text c =
+returns-in-Ok-Some-clause-text g c =
     (c.refuted.ensures.answer (problem_of c.args.problem.now) c.args.budget c.requires.some (record {
       inputs = c.gates-gates.ensures.numbering.well_formed.few_inputs;
       gates = c.gates-gates.ensures.numbering.well_formed.few_gates;
       held = c.args.problem.now.held;
       pins = c.pins-pins.ensures.fit;
       moments = c.moments-moments.ensures.fit;
-    }) (with_best (problem_of c.args.problem.now) c.args.budget c.args.known _ c.requires.known c.in-Ok-Some.ensures.best)
-    (rw c.in-Ok-Some.field-0-is at c.in-Ok-Some.ensures.shown)).1
+    }) (with_best (problem_of c.args.problem.now) c.args.budget c.args.known _ c.requires.known c.search-found.ensures.best)
+    (rw (c.in-Ok-Some.is, c.in-Ok-Some.field-0-is) at c.search-found.ensures.shown)).1
+
+pub returns-in-Ok-Some-clause-high : goal.returns-in-Ok-Some-clause-high
+returns-in-Ok-Some-clause-high g c =
+    c.refuted.ensures.high (c.requires.known.high c.search-found.new.best.pair c.search-found.new.best.time
+    c.search-found.ensures.best.admitted c.search-found.ensures.best.delay)
+
+pub returns-in-Ok-Some-clause-time : goal.returns-in-Ok-Some-clause-time
+returns-in-Ok-Some-clause-time g c = c.refuted.ensures.time c.args.effort.stop.now.can_be_set c.search-found.ensures.cause
 
 pub returns-in-Ok-None-clause-answer : goal.returns-in-Ok-None-clause-answer
-returns-in-Ok-None-clause-answer c =
-    rw c.between.ensures (reported_between (problem_of c.args.problem.now) c.args.budget _ c.ending.result
-    (with_best (problem_of c.args.problem.now) c.args.budget c.args.known _ c.requires.known c.search.ensures.best)).0
+returns-in-Ok-None-clause-answer g c =
+    rw c.between.ensures (reported_between (problem_of c.args.problem.now) c.args.budget _ c.search-found.result.1
+    (with_best (problem_of c.args.problem.now) c.args.budget c.args.known _ c.requires.known c.search-found.ensures.best)).0
 
 pub returns-in-Err-clause-answer : goal.returns-in-Err-clause-answer
-returns-in-Err-clause-answer c =
+returns-in-Err-clause-answer g c =
     rw c.between-in-Err.ensures (reported_between (problem_of c.args.problem.now) c.args.budget _ Memory
-    (with_best (problem_of c.args.problem.now) c.args.budget c.args.known _ c.requires.known c.search.ensures.best)).0
+    (with_best (problem_of c.args.problem.now) c.args.budget c.args.known _ c.requires.known c.search-found.ensures.best)).0

@@ -5,14 +5,14 @@ use Rattle.td_worst.proofs.Outcomes.{outcome_of, more_budget}
 use Rattle.td_worst.proofs.searching.by_all.Goals as goal
 
 pub refuted_further-shown-requires-clause-known : goal.refuted_further-shown-requires-clause-known
-refuted_further-shown-requires-clause-known g c =
+refuted_further-shown-requires-clause-known g c = λ κs lives.
     let asked = problem_by Least c.args.circuit.now c.args.admit.now in
     more_budget asked _ (c.nodes_of-nodes.result + c.nodes_of-more.result) c.led_further-led.result
     (omega (arith, c.with_nodes-first.ensures.budget, c.with_nodes-second.ensures.budget))
     (c.led_further-led.ensures.answer _ (outcome_of asked _ c.in_ok-known.known c.in_ok-known.ensures.answer) c.in_ok-known.ensures.text).0
 
 pub refuted_further-shown-requires-clause-text : goal.refuted_further-shown-requires-clause-text
-refuted_further-shown-requires-clause-text g c =
+refuted_further-shown-requires-clause-text g c = λ κs lives.
     let asked = problem_by Least c.args.circuit.now c.args.admit.now in
     (c.led_further-led.ensures.answer _ (outcome_of asked _ c.in_ok-known.known c.in_ok-known.ensures.answer) c.in_ok-known.ensures.text).1
 

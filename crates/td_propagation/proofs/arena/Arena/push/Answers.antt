@@ -1,18 +1,18 @@
 use Rattle.std.proofs.Common.{◌++◌, ◌∷◌, [], ◌∙◌, ap}
-use Rattle.td_propagation.proofs.Parts.{pushed, pushed_ends}
+use Rattle.td_propagation.proofs.Parts.{numbers_pushed, numbers_pushed_ends}
 use Rattle.td_propagation.proofs.arena.Arena.push.Goals as goal
 
-pub invariant_of-self-2 : goal.invariant_of-self-2
-invariant_of-self-2 c =
-    pushed_ends c.self.inside.literals.items c.extend_from_slice.new.self.items c.args.clause.now c.self.inside.ends.items c.push_reserved.new.self.items
-    c.len.result c.self.invariant c.in_ok-extend_from_slice.ensures.items
-    (c.push_reserved.ensures.items ∙ ap (λ list. list ++ c.len.result ∷ []) c.in_ok-reserve.ensures.items)
-    (c.len.ensures ∙ c.extend_from_slice.new.self.ok.0)
+pub invariant_of-self-in-Ok : goal.invariant_of-self-in-Ok
+invariant_of-self-in-Ok c =
+    numbers_pushed_ends c.self.inside.numbers.items c.put.new.numbers.items c.args.clause.now c.self.inside.ends.items c.push_reserved.new.self.items
+    c.in-Ok.end c.self.invariant c.in-Ok.ensures.ok
+    (c.push_reserved.ensures.items ∙ ap (λ list. list ++ c.in-Ok.end ∷ []) c.in_ok-reserve.ensures.items)
+    c.in-Ok.ensures.end
 
-pub returns-clause-ok : goal.returns-clause-ok
-returns-clause-ok c =
-    pushed c.self.inside.literals.items c.extend_from_slice.new.self.items c.args.clause.now c.self.inside.ends.items c.push_reserved.new.self.items
-    c.len.result c.self.invariant c.in_ok-extend_from_slice.ensures.items
-    (c.push_reserved.ensures.items ∙ ap (λ list. list ++ c.len.result ∷ []) c.in_ok-reserve.ensures.items)
-    (c.len.ensures ∙ c.extend_from_slice.new.self.ok.0)
+pub returns-in-Ok-clause-ok : goal.returns-in-Ok-clause-ok
+returns-in-Ok-clause-ok c =
+    numbers_pushed c.self.inside.numbers.items c.put.new.numbers.items c.args.clause.now c.self.inside.ends.items c.push_reserved.new.self.items
+    c.in-Ok.end c.self.invariant c.in-Ok.ensures.ok
+    (c.push_reserved.ensures.items ∙ ap (λ list. list ++ c.in-Ok.end ∷ []) c.in_ok-reserve.ensures.items)
+    c.in-Ok.ensures.end
     ∙ ap (λ list. list ++ c.args.clause.now ∷ []) c.self.view_is

@@ -2,5 +2,5 @@ use Rattle.std.proofs.Common.{sym, ◌∙◌}
 use Rattle.td_spans.proofs.Bounding.{last_ends}
 use Rattle.td_spans.proofs.lemmas.Lemmas.add.Goals as goal
 
-pub invariant_of-self-2-clause-ended : goal.invariant_of-self-2-clause-ended
-invariant_of-self-2-clause-ended c = c.is_nil-self.ensures ∙ sym (last_ends _ _ _ c.in_ok-add.ensures.ok)
+pub invariant_of-self-2 : goal.invariant_of-self-2
+invariant_of-self-2 c = record { ended = c.is_nil-self.ensures ∙ sym (last_ends _ _ _ c.in_ok-add.ensures.ok) }

@@ -6,7 +6,7 @@ use Rattle.td_worst.proofs.refuting.OpenAnswer.refuted.Goals as goal
 
 pub returns-then-refuted-time-clause-answer : goal.returns-then-refuted-time-clause-answer
 returns-then-refuted-time-clause-answer c = λ asked budget some sizes is shown.
-    rw (c.between.ensures, c.min-high.ensures) (reported_between asked budget _ c.ending.result (lowered asked budget c.args.refuted.now.bound c.args.self is shown.bound))
+    rw (c.between.ensures, c.min-high.ensures) (reported_between asked budget _ c.args.why (lowered asked budget c.args.refuted.now.bound c.args.self is shown.bound))
 
 pub returns-then-refuted-time-clause-low : goal.returns-then-refuted-time-clause-low
 returns-then-refuted-time-clause-low c = rw c.between.ensures refl
