@@ -14,7 +14,7 @@ fn terms_of_a_text(rt: HostRuntime) -> Result<(), Fail> {
     let terms = certificate.question.terms().ok_or("terms")?;
     let outputs = terms.outputs.as_ref().ok_or("outputs")?;
     assert_eq!(rt; (terms.rise, terms.fall), (2, 3));
-    assert_eq!(rt; (outputs.len(), outputs[0], outputs[1]), (2, 0, 7));
+    assert_eq!(rt; outputs.as_slice(), [0u64, 7].as_slice());
     assert_eq!(rt; (certificate.time, certificate.high), (3, 5));
     Ok(())
 }
