@@ -252,12 +252,12 @@ fn session(alloc: Global, seed: u64) -> Result<Tally, AllocError> {
 #[test]
 fn answers_are_right(rt: HostRuntime) -> Result<(), Fail> {
     let mut tally = Tally::none();
-    for seed in 0..300u64 {
+    for seed in 0..60u64 {
         tally = sum(tally, session(rt.alloc(), seed.wrapping_mul(7919))?);
     }
     assert_eq!(rt; (tally.wrong, tally.unshown), (0, 0));
     assert!(rt;
-        tally.satisfied > 1000 && tally.refuted > 1000 && tally.lemmas > 1000,
+        tally.satisfied > 200 && tally.refuted > 200 && tally.lemmas > 200,
         "{tally:?}"
     );
     Ok(())
