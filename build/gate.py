@@ -5,11 +5,11 @@ what it cost.
 It prints the kit, the processors, the time, the processor seconds of all that ran and the gate's
 last line, and a table by crate: seconds by the clock of its proof, and processor seconds of its
 proof, of the same once more for its must-fail edits (where a kit does that before them), of these,
-and of its tests. `--write` puts both into docs/FIGURES.md, between the comments that name them,
-where the gate passed. `--record`
-writes the seconds by the clock into times.json, for `./prove`. With `--log FILE` no gate runs: the
-figures are those that an earlier run printed into FILE. Nothing else should be at work on the
-machine. The exit status is that of `rt ci`.
+and of its tests. `--write` puts both into docs/FIGURES.md, of the second one the dearest crates
+and the sums, between the comments that name them, where the gate passed. `--record` writes the
+seconds by the clock into times.json, for `./prove`. With `--log FILE` no gate runs: the figures are
+those that an earlier run printed into FILE. Nothing else should be at work on the machine. The exit
+status is that of `rt ci`.
 
 `--anew` proves everything, whatever the kit has kept. Kits differ here: `rt ci` of one that keeps
 proofs (13f) takes names of crates and `--anew`, and without it proves only what isn't kept; that of
@@ -34,6 +34,8 @@ from times import read_times, write_times
 from watch import AGAIN, EDIT, PROOF, TESTS, Watch
 
 COLUMNS = (PROOF, AGAIN, EDIT, TESTS)
+# How many crates a page lists.
+LISTED = 8
 HEAD = "| Kit | Processors | By the clock | Processor seconds | Last line |"
 PASSED = re.compile(r"\d+ passed, 0 failed")
 
@@ -100,6 +102,17 @@ def figures_of(log):
     return head + found[0]
 
 
+def for_page(text):
+    """The figures as a page has them, with the dearest crates alone."""
+    lines, left = [], LISTED
+    for line in text.splitlines(keepends=True):
+        is_crate = re.match(r"\| `td\w*` \|", line)
+        if not is_crate or left:
+            lines.append(line)
+            left -= bool(is_crate)
+    return "".join(lines)
+
+
 def record(watch):
     """Writes the seconds by the clock of the crates that were proved into times.json."""
     times = read_times()
@@ -150,7 +163,7 @@ def main():
         if status or not PASSED.search(text):
             fail(status or 1, "the gate didn't pass, so its figures aren't written")
         try:
-            written.put(asked.page, "build/gate.py", "proofs", text)
+            written.put(asked.page, "build/gate.py", "proofs", for_page(text))
         except written.NoPlace as why:
             fail(1, str(why))
     return status

@@ -10,13 +10,14 @@ The tables:
   and OTHER the one after it.
 - `workers`: searches by 1, 2 and 4 workers, by the clock.
 - `parts`: one search at once, by 4 workers, and in parts by examples/many_machines.sh.
+- `growth`: circuits by `auto`, in families, by their gates; tools/plots.py draws this table.
 - `strategies`: each netlist by each strategy that the program has.
 - `collection`: how many netlists of a folder are exact, by the strategy `auto` or `--strategies`.
 - `refutations`: certificates by `refute`: their bytes, and what `check` takes.
 - `hostile`: certificates that are as long, wide or wrong as a text allows, and what `check` takes.
 - `first`: the first command in a fresh clone of what is committed, which compiles, and later ones.
 
-The netlists are those of examples/, made by lib/circuits.py, or of the folder `--netlists`; those
+The netlists are those of examples/ and examples/real/, made by lib/circuits.py, or of the folder `--netlists`; those
 that are in neither are left out, and the table says so. Each run ends after `--seconds` at most,
 and the table says which was stopped; the first command has 20 minutes. Of `--runs` runs the least
 seconds stand in the table, but one run alone in `strategies`, `collection` and `hostile`. Seconds
@@ -47,6 +48,7 @@ TABLES = {
     "speed": searches.speed,
     "workers": searches.workers,
     "parts": costs.parts,
+    "growth": searches.growth,
     "strategies": searches.strategies,
     "collection": searches.collection,
     "refutations": costs.refutations,
@@ -67,6 +69,8 @@ def conditions(table):
     least = f"the least of {asked.runs} runs" if is_least else "one run"
     text = f"Measured on {date}, {os.cpu_count()} processors ({model[1] if model else 'unknown'}): "
     text += f"{least}, each for {asked.seconds} seconds at most."
+    if asked.unproved:
+        text += " The program was compiled without proofs, and checks each index and sum as it runs."
     if asked.table == "speed" and len(asked.programs) == 2:
         text += " Of two figures the first is that before the change."
     lacking = table.lacking + table.unseen
@@ -99,6 +103,8 @@ def call():
                        help="of `speed` and `commands`, by valgrind")  # fmt: skip
     words.add_argument("--clone", metavar="FOLDER",
                        help="the repository of `first`, this one where it is left out")  # fmt: skip
+    words.add_argument("--unproved", action="store_true",
+                       help="say that PROGRAM was compiled without proofs")  # fmt: skip
     words.add_argument("--write", action="store_true")
     words.add_argument("--page", default=written.FIGURES, metavar="FILE")
     asked = words.parse_args()

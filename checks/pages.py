@@ -4,20 +4,22 @@
 The pages of PAGES are read from top to bottom, one after the other, and their commands run in one
 folder. A block that begins as a module is a netlist, of the last name that ends in `.v` before it.
 Each line of a block `sh` that calls `./tdelay`, and each `command FILE.v ..` in backquotes, is run,
-and ends well. A block without a language is what the last command prints, whole or without the
-head. A text in backquotes that is a line of a report or a message is a line that some command of
+and ends well. A block `python` is a script, which is run too, and a block `rust` is code of a file
+that the page names. A block without a language is what the last command or script prints, whole or
+without the head. A text in backquotes that is a line of a report or a message is a line that some command of
 the pages prints, or one of OTHERS, of which they tell in words.
 
-Besides, each contract that README.md and docs/CONTRACTS.md quote stands in the sources, word for
-word, as that of its function (tools/contracts.py); as many wrong bodies are there as the pages say;
-the numbers and names of docs/model are those of tools/model.py, and the picture of the crates is
-that of tools/picture.py. Each relative link of a page leads to a file that is there, and to a
-heading of it. Lines have at most 100 columns, but for tables and blocks, in README.md also there,
-which has at most 150 lines; and no page has one of the words of tools/words.py. The numbers of
-README.md are those of the places in NUMBERS. A page that isn't read here has no command, or is one
-of ELSEWHERE, whose check reads it. The commands and options of docs/MANUAL.md are those of
-`--help`, command by command, and each refusal of docs/NETLIST.md is what its example gives. Each
-command, block, text, line of a contract, link, page, number and refusal is a case.
+Besides, the table of contracts in docs/CONTRACTS.md is that of tools/contracts.py, the tables of
+options in docs/MANUAL.md are those of tools/options.py, the plots those of tools/plots.py, the
+numbers of docs/model those of tools/model.py, and the picture of the crates is that of
+tools/picture.py. As many wrong bodies are there as the pages say. Each name of code and each path
+in backquotes is in the repository, but for those of NO_NAMES. Each relative link of a page leads to
+a file that is there, and to a heading of it. Lines have at most 100 columns, but for tables and
+blocks, in README.md also there, which has at most 150 lines and 900 words; and no page has one of
+the words of tools/words.py. The numbers of README.md are those of the places in NUMBERS. A page
+that isn't read here has no command, or is one of ELSEWHERE, whose check reads it. Each refusal of
+docs/NETLIST.md is what its example gives. Each command, block, text, name, link, page, number and
+refusal is a case.
 """
 
 import glob
@@ -26,36 +28,47 @@ import re
 import shutil
 import sys
 
-from lib import check, places, running
+from lib import check, circuits, places, running
 from lib.netlists import INVERTER, LOST
 
-import contracts as quoting
-from contracts import plain
+import contracts as listing
+import help_text
+import options as making
 
 COMMANDS = "sim|path|bound|worst|parts|join|info|check"
 # The pages with commands, and how many each has at least.
 PAGES = {
-    "README.md": 5,
+    "README.md": 2,
     "docs/MANUAL.md": 15,
     "docs/NETLIST.md": 1,
     "docs/TRANSITION-DELAY.md": 5,
+    "docs/TUTORIAL.md": 5,
+    "docs/LIBRARY.md": 1,
+    "docs/QUESTIONS.md": 0,
+    "docs/BESIDE.md": 0,
     "examples/README.md": 7,
     "examples/from_rtl/README.md": 7,
 }
-# The page that quotes contracts, and how many lines it quotes at least.
-CONTRACTS, QUOTED = "docs/CONTRACTS.md", 120
-# What is planted there, in place of what, and whether tools/contracts.py can mend it.
+# The page with the table of contracts, and what is planted there, in place of what.
+CONTRACTS = "docs/CONTRACTS.md"
 PLANTED = [
-    ("ensures offer { offer ≤ result }", "ensures offer { offer < result }", True),
-    ("    requires net { net < length (nets circuit.now) }\n", "", True),
-    ("depth(alloc: Global, circuit: &Circuit)", "depth(circuit: &Circuit)", True),
-    ("    ensures acyclic {", "    ensures acyclical {", False),
-    ("pub fn any(&self", "pub fn anything(&self", False),
+    ("`read` (found, only, fault)", "`read` (found, fault)"),
+    ("`chain_of` |", "`chains_of` |"),
+    ("`means_one`", "`means_two`"),
+    ("| `td_gates` |", "| `td_gate` |"),
 ]
+# Names in backquotes that aren't of the repository: those of other programs.
+NO_NAMES = {"Console", "Lts", "Ln", "afterok", "backoffLimit", "gzip"}
+# How many names and paths in backquotes all pages have at least.
+NAMED = 500
 # Commands that a page tells of in words.
 OTHERS = {
     "README.md": ["worst lost.v --budget 1"],
     "docs/TRANSITION-DELAY.md": [],
+    "docs/TUTORIAL.md": [],
+    "docs/LIBRARY.md": [],
+    "docs/QUESTIONS.md": [],
+    "docs/BESIDE.md": [],
     "docs/MANUAL.md": [
         "bound inverter.v",
         "sim skew.v 01 10",
@@ -86,9 +99,11 @@ COSTS = "docs/FIGURES.md"
 NUMBERS = [
     (r"\((\d+) seconds on\s+four\s+processors", COSTS, r"c17\.v`, the first \| \S+ 3` \| (\d+) \|"),
     (r"(\d+)\s+minutes\s+on\s+two\s+processors", COSTS, r"\| 2 \| (\d+) minutes \|"),
-    (r"1 to (\d+) workers:", "docs/MANUAL.md", r"threads that search, 1 to (\d+)"),
+    (r"1 to (\d+) workers:", "docs/MANUAL.md", r"threads search, from 1 to (\d+)"),
 ]
-LONGEST_README = 150
+LONGEST_README, README_WORDS = 150, 900
+# The longest that a command of a page may take, in seconds.
+LONGEST = 180
 # How many relative links all pages have at least, and how many refusals docs/NETLIST.md has.
 LINKS, REFUSALS = 200, 16
 # Where the examples of docs/NETLIST.md stand.
@@ -106,41 +121,26 @@ LINES = [
 LINE = re.compile("|".join(LINES))
 
 
-def sources():
-    """All code, without comments."""
-    paths = sorted(glob.glob(os.path.join(places.TOP, "crates/*/src/*.rt")))
-    texts = (places.text_of(path) for path in paths)
-    return plain(" ".join(re.sub(r"^\s*//.*$", "", text, flags=re.M) for text in texts))
-
-
-def contracts(tested):
-    """Cases: each line of a contract that the pages quote stands in the sources."""
-    code, count = sources(), 0
-    for page in ("README.md", CONTRACTS):
-        for block in re.findall(r"```\n(pub fn.*?)```", places.text_of(page), flags=re.S):
-            for line in re.split(r"\n(?=pub fn|    ensures|    requires)", block.strip()):
-                count += 1
-                tested.expect(f"{page} quotes {plain(line)}", True, plain(line) in code)
-    if count < QUOTED:
-        tested.fault(f"{count} lines of contracts in the pages, where there have to be {QUOTED}")
-
-
 def renewals(tested):
-    """Cases: tools/contracts.py finds what is planted, and mends what the sources have."""
+    """Cases: tools/contracts.py finds what is planted in its table, and a function that is gone."""
     page = places.text_of(CONTRACTS)
-    if quoting.renewed(page)[1]:
+    if listing.written(page, []) != page:
         # That the page differs is a case of `tools`.
         return
-    for old, new, mended in PLANTED:
-        tested.expect(f"{CONTRACTS} has once {old}", 1, page.count(old))
-        found, differing = quoting.renewed(page.replace(old, new))
-        tested.expect(f"{new!r} for {old!r} in {CONTRACTS}", 1, len(differing))
-        tested.expect(f"and whether that is mended: {differing}", mended, found == page)
+    for old, new in PLANTED:
+        changed = page.replace(old, new)
+        tested.expect(f"{CONTRACTS} has {old}", True, changed != page)
+        tested.expect(f"{new!r} for {old!r} in {CONTRACTS}", page, listing.written(changed, []))
+    missing = []
+    listing.MAIN["td_path"].append("chains_of")
+    listing.written(page, missing)
+    listing.MAIN["td_path"].pop()
+    tested.expect("a function that isn't there", ["td_path::chains_of"], missing)
 
 
 def tools(tested):
-    """Cases: contracts, numbers of the model, the picture of the crates, refusals of the bridges."""
-    for tool in ("contracts.py", "model.py", "picture.py", "refusals.py"):
+    """Cases: contracts, numbers of the model, pictures, refusals of the bridges."""
+    for tool in ("contracts.py", "model.py", "picture.py", "plots.py", "refusals.py"):
         done = running.run(
             [sys.executable, os.path.join(places.TOOLS, tool), "--check"], places.TOP
         )
@@ -176,6 +176,53 @@ def all_pages():
     found = glob.glob(os.path.join(places.TOP, "**", "*.md"), recursive=True)
     names = sorted(os.path.relpath(path, places.TOP) for path in found)
     return [name for name in names if "out" not in name.split(os.sep)]
+
+
+def names_there():
+    """The words of all files but pages and this one, and the names of all files and folders."""
+    found = set()
+    for root, folders, files in os.walk(places.TOP):
+        folders[:] = [it for it in folders if it not in ("out", ".git", "__pycache__")]
+        found.update(folders, files, (it.partition(".")[0] for it in files))
+        for name in files:
+            path = os.path.join(root, name)
+            if not name.endswith(".md") and path != os.path.abspath(__file__):
+                with open(path, encoding="utf-8", errors="ignore") as file:
+                    found.update(re.findall(r"[A-Za-z_]\w*", file.read()))
+    return found
+
+
+def is_there(path):
+    """Whether a path of a page leads to a file or a folder, from the top or from crates/."""
+    tops = [os.path.join(places.TOP, folder, path) for folder in ("", "crates")]
+    return any(glob.glob(top + ending) for top in tops for ending in ("", ".antt", ".rt", ".edit"))
+
+
+def is_made(name):
+    """Whether a name is that of a circuit which lib/circuits.py makes."""
+    found = re.fullmatch(r"([a-z]+\d*)_\d+", name)
+    return bool(found) and found[1] in circuits.MADE
+
+
+def names(tested):
+    """Cases: each name of code, and each path, in backquotes is one of the repository, or that of a
+    circuit which is made.
+    """
+    known, count = names_there() | NO_NAMES, 0
+    folders = r"bridges|build|checks|crates|docs|examples|tools|td_\w+"
+    for page in all_pages():
+        for span in spans_of(prose_of(page)):
+            if re.fullmatch(r"[A-Za-z_]\w*(?:::\w+)*", span) and not span.isupper():
+                parts = [it for it in span.split("::") if not it.isupper() and not is_made(it)]
+                lacking = [it for it in parts if it not in known]
+            elif re.fullmatch(rf"(?:{folders})/[\w./*-]+", span) and "NAME" not in span:
+                lacking = [] if is_there(span) or "/out/" in span else [span]
+            else:
+                continue
+            count += 1
+            tested.expect(f"{page}: `{span}` is in the repository", [], lacking)
+    if count < NAMED:
+        tested.fault(f"{count} names in the pages, where there have to be {NAMED}")
 
 
 def prose_of(name):
@@ -221,6 +268,8 @@ def widths(tested):
     wide = [line for line in lines if len(line) > 100]
     tested.expect("README.md: the lines above 100 columns", [], wide)
     tested.expect("README.md: it isn't too long", True, len(lines) <= LONGEST_README)
+    count = len(places.text_of("README.md").split())
+    tested.expect(f"README.md: {count} words", True, count <= README_WORDS)
 
 
 def words(tested):
@@ -265,29 +314,17 @@ def all_are_read(tested):
         tested.expect(f"{page}: a check reads it", True, f'"{name}"' in reader)
 
 
-def helped(tested, *words_before):
-    """The commands and the long options that help lists."""
-    text = tested.run(*words_before, "--help", seconds=15).out
-    names = re.findall(r"^ {2,6}(?:-\w, )?(--[a-z][a-z-]*)", text, flags=re.M)
-    return re.findall(r"^ {2}([a-z]+)(?: {2}|$)", text, flags=re.M), names
-
-
 def options(tested):
-    """Cases: the manual's commands and tables of options are those of `--help`."""
-    manual = places.text_of("docs/MANUAL.md")
-    commands = [name for name in helped(tested)[0] if name != "help"]
-    tested.expect("the commands", sorted(COMMANDS.split("|")), sorted(commands))
+    """Cases: the manual's commands are those of `--help`, and its tables of options those that
+    tools/options.py makes of it.
+    """
+    manual, (_, helps) = places.text_of("docs/MANUAL.md"), help_text.read(tested.program)
+    tested.expect("the commands", sorted(COMMANDS.split("|")), sorted(helps))
     headings = re.findall(r"^## `(\w+)`", manual, flags=re.M)
-    tested.expect("docs/MANUAL.md: the commands", sorted(commands), sorted(headings))
-    for command in COMMANDS.split("|"):
-        section = re.search(rf"^## `{command}`.*?(?=^## )", manual, flags=re.M | re.S)
-        shown = re.findall(r"^\| `(--[a-z-]+)", section[0] if section else "", flags=re.M)
-        listed = helped(tested, command)[1]
-        tested.expect(
-            f"docs/MANUAL.md: the options of {command}",
-            sorted({*listed} - {"--help"}),
-            sorted(shown),
-        )
+    tested.expect("docs/MANUAL.md: the commands", sorted(helps), sorted(headings))
+    for command, table in making.tables(helps).items():
+        tested.expect(f"docs/MANUAL.md has the options of {command}", True, table in manual)
+    tested.expect("docs/MANUAL.md: its tables of options", manual, making.written(manual, helps))
 
 
 def refusals(tested):
@@ -340,9 +377,24 @@ class Pages:
         for name, text in FILES.items():
             running.write(folder, name, text)
 
+    def run_python(self, body):
+        """A case: a script of the page ends well."""
+        done = running.run([sys.executable, "-c", body], self.folder)
+        self.commands += 1
+        self.last = done.out
+        self.tested.expect(f"{self.name}: a script: {done.err}: the status", 0, done.status)
+
+    def find_source(self, body):
+        """A case: code that the page shows is that of the file that it names."""
+        code = [places.text_of(it) for span_of, it in self.spans if span_of == self.name
+                and re.fullmatch(r"crates/[\w/]+\.rt", it)]  # fmt: skip
+        self.tested.expect(f"{self.name}: the code {body[:40]!r} is in its file", True,
+                           any(body in text for text in code))  # fmt: skip
+
     def run(self, line, statuses=(0,)):
         """A case: a command of the page ends well."""
-        done = running.run(["bash", "-c", f"set -o pipefail; {line}"], self.folder)
+        words = ["bash", "-c", f"set -o pipefail; {line}"]
+        done = running.run(words, self.folder, seconds=LONGEST)
         self.commands += 1
         self.last = done.out
         self.lines.update((done.out + done.err).splitlines())
@@ -361,6 +413,10 @@ class Pages:
             elif language == "sh":
                 for line in re.findall(r"^\./tdelay .*$", body, flags=re.M):
                     self.run(own_part(line))
+            elif language == "python":
+                self.run_python(body)
+            elif language == "rust":
+                self.find_source(body)
             elif language == "" and re.match(r"module \w+ ?\(", body):
                 running.write(self.folder, netlist, body)
             elif language == "" and not re.match(r" +\d+  ", body):
@@ -412,11 +468,11 @@ class Pages:
 
 
 def work(tested):
-    contracts(tested)
     renewals(tested)
     tools(tested)
     counted(tested)
     applied(tested)
+    names(tested)
     links(tested)
     widths(tested)
     words(tested)

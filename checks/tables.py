@@ -144,10 +144,10 @@ def by_strategies(tested):
 
 def by_workers(tested):
     """Cases: the table `workers`, of a program that sleeps a second."""
-    only = nets(tested, "mul8_r", places.text_of("examples", "c17.v"))
+    only = nets(tested, "mult_8", places.text_of("examples", "c17.v"))
     words = ["workers", *only, "--runs", "1"]
     status, rows, text = table(tested, *words, lie(tested, "sleeps"))
-    cells = rows.get("mul8_r", [""] * 7)
+    cells = rows.get("mult_8", [""] * 7)
     slow = all(1 <= float(it or 0) < 20 for it in cells[2:5])
     tested.expect(f"{text}what is answered", (0, "`exact 3`", True), (status, cells[1], slow))
 
@@ -168,17 +168,29 @@ def by_parts(tested):
 
 def by_refutations(tested):
     """Cases: the table `refutations`, of a multiplier of three bits."""
-    words = ["refutations", *nets(tested, "mul8_r", circuits.multiplier(3)), "--runs", "1"]
+    words = ["refutations", *nets(tested, "mult_6", circuits.multiplier(3)), "--runs", "1"]
     status, rows, text = table(tested, *words, tested.program)
-    done = tested.run("worst", "nets/mul8_r.v", "--strategy", "refute", "--cert", "c")
+    done = tested.run("worst", "nets/mult_6.v", "--strategy", "refute", "--cert", "c")
     exact, size = done.out.splitlines()[2], len(tested.read("c") or b"")
     wanted = (0, [f"`{exact}`", f"{size:,}"], True)
-    tested.expect(f"{text}{done}", wanted, (status, rows.get("mul8_r", [])[:2], size > 500))
+    tested.expect(f"{text}{done}", wanted, (status, rows.get("mult_6", [])[:2], size > 500))
     status, _, text = table(tested, *words, lie(tested, "refuses"))
     tested.expect(f"{text}no certificate is accepted", (1, True),
-                  (status, "wrong: check of mul8_r: " in text))  # fmt: skip
-    status, rows, text = table(tested, "refutations", "--only", "mul8_r", tested.program)
-    tested.expect("no netlist", (0, {}, True), (status, rows, "weren't there: mul8_r." in text))
+                  (status, "wrong: check of mult_6: " in text))  # fmt: skip
+    status, rows, text = table(tested, "refutations", "--only", "absent", tested.program)
+    tested.expect("no netlist", (0, {}, True), (status, rows, "weren't there: absent." in text))
+
+
+def by_growth(tested):
+    """Cases: the table `growth`, of an adder of 8 bits, and with a program that refuses all."""
+    words = ["growth", "--only", "adder_8", "--runs", "1"]
+    status, rows, text = table(tested, *words, tested.program)
+    cells = rows.get("adder_8", [""] * 7)
+    tested.expect(f"{text}an adder", (0, ["adders", "49", "`exact 45`"]), (status, cells[:3]))
+    tested.expect("bytes of its certificate", True, 100 < int(cells[5] or 0) < 1000)
+    status, _, text = table(tested, *words, lie(tested, "refuses"))
+    tested.expect(f"{text}none is accepted", (1, True),
+                  (status, "wrong: check of adder_8: " in text))  # fmt: skip
 
 
 def by_hostile(tested):
@@ -311,7 +323,7 @@ def gates(tested):
 
 def work(tested):
     parts = [speeds, by_commands, by_strategies, by_workers, by_parts, by_refutations, by_hostile]
-    for part in [*parts, by_first, collections, written, refusals, gates]:
+    for part in [*parts, by_growth, by_first, collections, written, refusals, gates]:
         part(tested)
         if tested.wrong:
             # A program that can't answer one question takes long to fail the others.

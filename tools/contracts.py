@@ -1,33 +1,66 @@
 #!/usr/bin/env python3
-"""contracts.py [--check | --write]: the contracts that docs/CONTRACTS.md quotes, and the sources.
+"""contracts.py [--check | --write]: the table of contracts in docs/CONTRACTS.md, from the sources.
+contracts.py CRATE::FUNCTION ..: prints the contracts of these functions, as the sources have them.
 
-A block of the page that begins with `pub fn` quotes functions of the crates that its section's
-heading names: the head of each, or the beginning of the head, all that it requires, and some
-clauses of what it ensures. A clause is known by its word and its name. Without a word, or with
-`--check`, it lists what differs from the sources, and ends with status 1 where something does.
-`--write` puts the sources' text in place of each head and clause that differs, and adds what is
-required and isn't quoted; a function or a clause that is gone is listed, and has to be mended by
-hand. Run it from any folder.
+The table has a row for each crate of crates.txt: what it is (the first sentence of its module's
+comment), its main functions (MAIN), each with the names of the clauses that it ensures, and its
+laws. Without a word, or with `--check`, the exit status is 1 where the page has another table, or a
+function or a law of MAIN isn't there. `--write` puts the table into the page. Run it from any
+folder.
 """
 
 import glob
 import os
 import re
 import sys
-import textwrap
 from dataclasses import dataclass, field
 
 TOP = os.path.dirname(os.path.dirname(os.path.abspath(__file__)))
 PAGE = os.path.join(TOP, "docs", "CONTRACTS.md")
-WIDTH = 100
-BLOCK = re.compile(r"^(```\n)(pub fn .*?)(^```$)", flags=re.M | re.S)
+START = "<!-- Written by tools/contracts.py table, to the next comment. -->\n"
+END = "<!-- The end of table. -->\n"
 CLAUSE = re.compile(r"^ *(requires|ensures)(?: (\w+))? \{")
-
-
-def plain(text):
-    """A piece of source on one line, however it is laid out."""
-    text = re.sub(r"\s+", " ", text.strip())
-    return text.replace("( ", "(").replace(", )", ",)").replace(",)", ")")
+# What each crate is used for.
+MAIN = {
+    "td_gates": ["eval", "eval_counts", "to"],
+    "td_nets": ["print"],
+    "td_syntax": ["parse"],
+    "td_netlist": ["read"],
+    "td_command": ["parse"],
+    "td_inputs": ["merged"],
+    "td_circuit": ["build", "set_moments", "gates"],
+    "td_source": ["circuit_of", "source_of"],
+    "td_info": ["depth", "range_of"],
+    "td_run": ["settle", "waves"],
+    "td_path": ["chain_of"],
+    "td_vcd": ["write"],
+    "td_domain": ["bound", "any", "narrow", "widen", "bound_together"],
+    "td_stop": ["new", "never", "is_set"],
+    "td_event_sim": ["new", "delay_of"],
+    "td_lead": ["position"],
+    "td_climb": ["new", "go_on", "into_pair"],
+    "td_spans": ["bound", "has_no_pair"],
+    "td_refutation": ["new", "step", "bound", "refuted"],
+    "td_refute": ["refute"],
+    "td_certificate": ["read", "write"],
+    "td_checker": ["check", "check_owned"],
+    "td_join": ["join_in", "join"],
+    "td_incumbent": ["look", "raise", "close"],
+    "td_book": ["claim", "claim_id", "split", "close", "graft"],
+    "td_search": ["alone", "alone_by", "find", "finish"],
+    "td_pool": ["worst", "worst_by", "search"],
+    "td_parts": ["cut"],
+    "td_worst": ["worst", "worst_until"],
+    "td_cli": ["run"],
+    "td_each": ["run_each"],
+    "td_json": ["json", "run_json"],
+    "td_quiet": ["run_quiet"],
+    "td_naming": ["positional"],
+    "td_hints": ["flaw_sentence", "taken_net"],
+    "td_advice": ["advise"],
+    "td_terminal": ["new"],
+    "td_question": ["question_of"],
+}
 
 
 @dataclass
@@ -38,18 +71,16 @@ class Contract:
     head: str
     clauses: dict = field(default_factory=dict)
 
-    def required(self):
-        return [key for key in self.clauses if key[0] == "requires"]
+    def ensured(self):
+        """The names of what it ensures, without those of clauses that have none."""
+        return [name for word, name in self.clauses if word == "ensures" and name]
 
-    def likeness(self, quoted):
-        """How many of the quoted clauses this contract has as they are quoted."""
-        return sum(
-            plain(self.clauses.get(key, "")) == plain(text) for key, text in quoted.clauses.items()
-        )
+    def text(self):
+        return "\n".join([self.head, *self.clauses.values()])
 
 
 def contracts_of(lines):
-    """The contracts in lines of source or of a block, in order."""
+    """The contracts in lines of heads and clauses, in order."""
     found, depth, open_clause = [], 0, None
     for line in lines:
         begins = re.match(r"^ *pub fn (\w+)", line)
@@ -101,99 +132,91 @@ def ends_head(line):
     return re.search(r";$|(\)|>|\w) \{$", line.rstrip()) is not None
 
 
-def sources(crate):
-    """The contracts of a crate's public functions, by name."""
+def text_of(*parts):
+    with open(os.path.join(TOP, *parts), encoding="utf-8") as file:
+        return file.read()
+
+
+def sources(crate, files="*.rt"):
+    """The contracts of a crate's public functions that ensure something, by name."""
     by_name = {}
-    for path in sorted(glob.glob(os.path.join(TOP, "crates", crate, "src", "*.rt"))):
-        with open(path, encoding="utf-8") as file:
-            for contract in contracts_of(heads_and_clauses(file.read())):
+    for path in sorted(glob.glob(os.path.join(TOP, "crates", crate, "src", files))):
+        for contract in contracts_of(heads_and_clauses(text_of(path))):
+            if any(word == "ensures" for word, _ in contract.clauses):
                 by_name.setdefault(contract.name, []).append(contract)
     return by_name
 
 
-def source_of(quoted, crates):
-    """The contract that is quoted: of those of its name the one most like it, or None."""
-    named = [it for crate in crates for it in sources(crate).get(quoted.name, [])]
-    same = [it for it in named if plain(it.head).startswith(plain(quoted.head))]
-    return max(same or named, key=lambda it: it.likeness(quoted), default=None)
+def first_sentence(crate):
+    """The first sentence of the comment of a crate's module."""
+    name = next(it for it in ("lib.rt", "main.rt") if it in os.listdir(f"{TOP}/crates/{crate}/src"))
+    lines = re.match(r"(?://! .*\n)+", text_of("crates", crate, "src", name))[0]
+    text = " ".join(line.removeprefix("//! ") for line in lines.splitlines())
+    return re.split(r"(?<=[.:]) (?=[A-Z])", text)[0].rstrip(".:")
 
 
-def laid_out(text, indent):
-    """A head or a clause as the page has it, in lines of at most WIDTH columns."""
-    later = indent + "    "
-    return "\n".join(
-        textwrap.wrap(
-            plain(text),
-            WIDTH,
-            initial_indent=indent,
-            subsequent_indent=later,
-            break_long_words=False,
-            break_on_hyphens=False,
-        )
-    )
+def crates():
+    """The crates of crates.txt, lower first, without those of tests."""
+    names = re.findall(r"^(td\w*)", text_of("crates.txt"), flags=re.M)
+    return [name for name in names if not name.endswith("_rows")]
 
 
-def compared(quoted, source, differing):
-    """The text of a quoted contract, as the sources have it. What differs is noted."""
-    head = quoted.head
-    if not plain(source.head).startswith(plain(head)):
-        differing.append(f"{quoted.name}: the head is {plain(source.head)}")
-        head = laid_out(source.head, "")
-    lines = [head]
-    keys = [key for key in source.required() if key not in quoted.clauses]
-    differing += [f"{quoted.name}: {' '.join(key).strip()} isn't quoted" for key in keys]
-    order = {key: place for place, key in enumerate(source.clauses)}
-    for key in sorted([*keys, *quoted.clauses], key=lambda it: order.get(it, len(order))):
-        own, text = quoted.clauses.get(key), source.clauses.get(key)
-        if text is None:
-            differing.append(f"{quoted.name}: the sources have no {' '.join(key).strip()}")
-            text = own
-        elif own is None or plain(own) != plain(text):
-            if own is not None:
-                differing.append(f"{quoted.name}: {' '.join(key).strip()} is {plain(text)}")
-            text = laid_out(text, "    ")
-        else:
-            text = own
-        lines.append(text)
-    return "\n".join(lines)
+def functions(crate, missing):
+    """A crate's main functions with the names of their clauses, as a cell."""
+    found, cells = sources(crate), []
+    for name in MAIN.get(crate, []):
+        if name not in found:
+            missing.append(f"{crate}::{name}")
+            continue
+        clauses = max((it.ensured() for it in found[name]), key=len)
+        cells.append(f"`{name}`" + (f" ({', '.join(clauses)})" if clauses else ""))
+    return ", ".join(cells)
 
 
-def renewed(page):
-    """The page as the sources have it, and what differed."""
-    differing, out, crates = [], [], []
-    for section in re.split(r"^(?=## )", page, flags=re.M):
-        crates = re.findall(r"`(td\w*)`", section.partition("\n")[0]) or crates
+def table(missing):
+    rows = ["| Crate | What it is | Functions, with their clauses | Laws |"]
+    rows.append("| --- | --- | --- | --- |")
+    for crate in crates():
+        laws = ", ".join(f"`{name}`" for name in sources(crate, "laws.rt"))
+        cells = [f"`{crate}`", first_sentence(crate), functions(crate, missing), laws]
+        rows.append("| " + " | ".join(cells) + " |")
+    return "\n".join(rows) + "\n"
 
-        def block(found, crates=tuple(crates)):
-            texts = []
-            for quoted in contracts_of(found[2].splitlines()):
-                source = source_of(quoted, crates)
-                if source is None:
-                    differing.append(f"{quoted.name}: no public function of {', '.join(crates)}")
-                    texts.append("\n".join([quoted.head, *quoted.clauses.values()]))
-                else:
-                    texts.append(compared(quoted, source, differing))
-            return found[1] + "\n".join(texts) + "\n" + found[3]
 
-        out.append(BLOCK.sub(block, section))
-    return "".join(out), differing
+def written(page, missing):
+    """The page with the table as the sources have it."""
+    head, _, rest = page.partition(START)
+    _, end, tail = rest.partition(END)
+    if not end:
+        sys.exit("contracts.py: docs/CONTRACTS.md lacks the comments around its table")
+    return head + START + table(missing) + END + tail
+
+
+def shown(words):
+    """Prints the contracts of functions; gives the exit status."""
+    status = 0
+    for word in words:
+        crate, _, name = word.partition("::")
+        found = sources(crate).get(name, [])
+        print("\n\n".join(it.text() for it in found) or f"contracts.py: no function {word}")
+        status = status or int(not found)
+    return status
 
 
 def main(words):
+    if words and all("::" in word for word in words):
+        return shown(words)
     if words not in ([], ["--check"], ["--write"]):
         sys.exit(__doc__)
-    with open(PAGE, encoding="utf-8") as file:
-        page = file.read()
-    new, differing = renewed(page)
-    print(*differing, sep="\n", end="\n" if differing else "")
-    if words == ["--write"] and new != page:
+    missing, page = [], text_of("docs", "CONTRACTS.md")
+    new = written(page, missing)
+    print(*(f"no function {it}" for it in missing), sep="\n", end="\n" if missing else "")
+    if words == ["--write"]:
         with open(PAGE, "w", encoding="utf-8") as file:
             file.write(new)
-    elif new != page and not differing:
-        print("docs/CONTRACTS.md: a block has lines that belong to no contract")
-        return 1
-    left = [it for it in differing if "no public function" in it or "have no" in it]
-    return 1 if (left if words == ["--write"] else differing) else 0
+    elif new != page:
+        print("docs/CONTRACTS.md has another table: run tools/contracts.py --write")
+    return 1 if missing or (words != ["--write"] and new != page) else 0
 
 
 if __name__ == "__main__":

@@ -2,8 +2,8 @@
 """refusals.py --check|--write: the table of refusals in docs/FROM-RTL.md, from the scripts of
 bridges/.
 
-A row has the name of a refusal, what it says is wrong, and what it says to do, as the first script
-that has it says them; what stands for something else in a text is `..`.
+A row has the name of a refusal, and what it says to do, as the script that says most of it has it;
+what stands for something else in a text is `..`. A refusal without a remedy has what is wrong.
 """
 
 import ast
@@ -81,7 +81,7 @@ def rows():
             before = found.get(name, ("", ""))
             found[name] = tuple(max(pair, key=letters) for pair in zip(before, (wrong, remedy)))
     return [
-        f"| `{name}` | {cell(wrong)} | {cell(remedy)} |"
+        f"| `{name}` | {cell(remedy if letters(remedy) else wrong)} |"
         for name, (wrong, remedy) in sorted(found.items())
     ]
 
@@ -102,7 +102,7 @@ def main():
         page = file.read()
     before, begin, rest = page.partition(BEGIN)
     old, end, after = rest.partition(END)
-    head = "| Name | What is wrong | What to do |\n| --- | --- | --- |\n"
+    head = "| Name | What to do |\n| --- | --- |\n"
     new = head + "".join(f"{row}\n" for row in rows())
     if not begin or not end:
         sys.exit("refusals.py: docs/FROM-RTL.md has no place for the table")

@@ -203,7 +203,23 @@ class Designs:
         if commands < 10 or not unit or f"\n{unit[1]}\n" not in printed:
             self.tested.fault(f"docs/FROM-RTL.md: {commands} commands, which print {printed}")
         self.figure(page, read(folder, "out/alu_8.txt"))
+        self.tutorial(folder)
         self.several()
+
+    def tutorial(self, folder):
+        """The first command of docs/TUTORIAL.md prints the lines that the page shows, where the
+        tools are those with which the examples were made.
+        """
+        page = text_of("docs", "TUTORIAL.md")
+        command = re.search(r"^```sh\n((?:(?!```).*\n)*bridges/.*\n)```", page, re.M)
+        shown = re.search(r"^```text\n(.*?)^```", page, re.M | re.S)
+        environment = {**os.environ, "TDELAY": self.tested.program}
+        ended = tool(["bash", "-e", "-c", command[1]], folder, env=environment)
+        printed = iter(ended.out.splitlines())
+        lacking = [line for line in shown[1].splitlines() if line not in printed]
+        if ended.status or versions() == VERSIONS and lacking:
+            self.tested.fault(f"docs/TUTORIAL.md: {lacking[:1]}: {ended.out}{ended.err}")
+        self.tested.case("command of the page")
 
     def several(self):
         """Several blocks by make and by GNU parallel: their reports and their statuses."""
@@ -246,7 +262,7 @@ class Designs:
         figures = re.findall(r"^(\w+): exact (\d+) ps, accepted (\d+)$", ended.out, re.M)
         if (
             ended.status
-            or len(figures) != 5
+            or len(figures) != 6
             or any(time != accepted for _, time, accepted in figures)
         ):
             self.tested.fault(f"examples/from_rtl/run.sh: {ended.status} {ended.out} {ended.err}")

@@ -149,9 +149,9 @@ MADE = {
 
 def path_of(name, folder, netlists):
     """The path of a netlist by its name: of the folder of netlists, where one is given, of
-    examples/, or written into `folder`. None where there is none.
+    examples/ or examples/real/, or written into `folder`. None where there is none.
     """
-    for place in (netlists, places.EXAMPLES):
+    for place in (netlists, places.EXAMPLES, places.example("real")):
         path = os.path.join(place or folder, f"{name}.v")
         if os.path.exists(path):
             return path

@@ -34,7 +34,7 @@ COMMANDS = [
 # What is searched in parts, in how many, and by how many processes or workers at a time.
 CUT, PARTS, AT_A_TIME = "adder_6", (1, 4, 16, 64), 4
 SCRIPT = places.example("many_machines.sh")
-REFUTED = "skip16_r alu32_r mul8_r mul9_r mul10_r nmul16_r dag2000_32_s1 dag5000_50_s2".split()
+REFUTED = "mult_6 mult_8 mult_10 c432x c880x c1908x grayptr mul8 booth8".split()
 # The first command compiles, which takes longer than a search may.
 COMPILING = 1_200
 

@@ -12,18 +12,17 @@ import help_text
 SPEED = [("adder_4", "least", None), ("mult_4", "least", None)]
 SPEED += [("adder_8", "least", 20_000), ("mult_8", "least", 20_000)]
 SPEED += [("random_20000", "least", 300)]
-SPEED += [
-    (name, "lead", None)
-    for name in ("mul8_r", "mul9_k", "parnand20_r", "prio9_r", "skip8_k", "alu8_r")
-]
+SPEED += [(name, "lead", None) for name in ("adder_128", "mult_8", "parity_32", "sifrag")]
 WORKERS = [("adder_8", "least", 1_000_000), ("mult_8", "least", 1_000_000)]
-WORKERS += [("mul8_r", "lead", None), ("mul9_k", "lead", None)]
-STRATEGIES = (
-    "adder_8 add16_k add64_k comp32_r cla32_r cla64_r skip8_k skip12_k skip16_r alu8_r alu32_k "
-    "alu32_r mux5_r prio7_r prio9_r parnand20_r mul7_k mul8_r mul9_k mul9_r mul10_r mul16_k "
-    "nmul8_k nmul16_k nmul16_r dag300_20_s1 dag300_20_s3 dag500_20_s2 dag1000_50_s1 dag2000_32_s1 "
-    "dag5000_50_s2"
-).split()
+REAL = "sifrag grayptr c432x rrarb16 c1908x c880x mul8 booth8".split()
+STRATEGIES = ["adder_8", "adder_64", "mult_4", "mult_6", "mult_8", "parity_32", *REAL]
+# Circuits by families, each in the order of size: how cost grows with it.
+GROWTH = {
+    "adders": [f"adder_{bits}" for bits in (8, 16, 32, 64, 128, 256, 512)],
+    "multipliers": [f"mult_{bits}" for bits in (4, 6, 8, 10, 12, 16)],
+    "random gates": [f"random_{count}" for count in (100, 300, 1000)],
+    "a real library": REAL,
+}
 COUNTS = (1, 2, 4)
 
 
@@ -76,6 +75,35 @@ def strategies(table):
         table.add(f"`{name}`", *(cell for pair in cells for cell in pair))
 
 
+def growth(table):
+    """The circuits of GROWTH by `auto`: gates, seconds, certificates, and the seconds of `check`."""
+    program = table.asked.programs[0]
+    table.head(
+        "Netlist", "Family", "Gates", "Answer", "Seconds of `auto`", "Seconds of `check`",
+        "Certificate, bytes", "Memory, MB",
+    )  # fmt: skip
+    for family, names in GROWTH.items():
+        for name in names:
+            path = table.path(name)
+            if path is None:
+                continue
+            certificate = table.certificate(path)
+            words = ["--strategy", "auto", "--cert", certificate]
+            (run,) = table.least_of([[program, "worst", path, *words]])
+            table.agree(name, [run])
+            cells = ["-"] * 2
+            if run.exact is not None:
+                (done,) = table.least_of([[program, "check", path, certificate]])
+                table.answer(f"check of {name}", done, [f"accepted {run.exact}"])
+                cells = [seconds_of(done), number(os.path.getsize(certificate))]
+            info = running.run([program, "info", path]).out
+            gates = next(int(it[6:]) for it in info.splitlines() if it.startswith("gates "))
+            table.add(
+                f"`{name}`", family, number(gates), run.answer(), seconds_of(run), *cells,
+                number(run.cost.memory),
+            )  # fmt: skip
+
+
 def workers(table):
     """Searches by 1, 2 and 4 workers: seconds by the clock."""
     table.head(
@@ -102,7 +130,8 @@ def workers(table):
 def collection(table):
     """How many netlists of the folder are exact, by each strategy; those that aren't by name."""
     program, asked = table.asked.programs[0], table.asked.strategies or ["auto"]
-    names = sorted(it[:-2] for it in os.listdir(table.asked.netlists) if it.endswith(".v"))
+    files = os.listdir(table.asked.netlists)
+    names = sorted(it[:-2] for it in files if it.endswith(".v") and not it.endswith(".rtl.v"))
     names = [it for it in names if table.is_asked(it)]
     table.head("Strategy", "Netlists", "Exact, accepted", "Between", "Did not end", "Seconds, most")
     left = []
@@ -121,7 +150,7 @@ def collection(table):
                 left.append(f"`{name}` by `{strategy}`: {run.answer()}")
         exact = sum(run.exact is not None for run in runs)
         ended = sum(run.ended for run in runs)
-        clock = [run.cost.clock for run in runs]
-        times = f"{number(sum(clock))}, {number(max(clock, default=0), 1)}"
+        used = [run.cost.processor for run in runs]
+        times = f"{number(sum(used), 1)}, {number(max(used, default=0), 1)}"
         table.add(f"`{strategy}`", len(runs), exact, ended - exact, len(runs) - ended, times)
     table.lines += ["", folded(f"Not exact: {'; '.join(left)}.")] if left else []

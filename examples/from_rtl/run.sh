@@ -1,6 +1,6 @@
 #!/bin/sh
 # run.sh OUT
-# Takes the three designs of this folder from RTL to exact figures, with the cells of
+# Takes the four designs of this folder from RTL to exact figures, with the cells of
 # bridges/tiny.lib, and leaves everything in the folder OUT: netlists, SDF files, proofs,
 # certificates, waves and pictures. TDELAY is the program, ./tdelay where it isn't set.
 set -eu
@@ -24,7 +24,7 @@ gates() {
 worst() {
     design=$1 name=$2
     shift 2
-    "$tdelay" worst "$out/$design.v" --strategy lead --cert "$out/$name.cert" --vcd "$out/$name.vcd" \
+    "$tdelay" worst "$out/$design.v" --strategy "${strategy:-lead}" --cert "$out/$name.cert" --vcd "$out/$name.vcd" \
         --path "$@" > "$out/$name.txt"
     echo "$name: $(grep '^exact' "$out/$name.txt") ps, $("$tdelay" check "$out/$design.v" "$out/$name.cert" | head -n 1)"
     python3 "$top/tools/drawing.py" "$out/$name.vcd" --width 900 --path "$out/$name.txt" > "$out/$name.svg"
@@ -39,3 +39,6 @@ worst bcd_adder bcd_adder
 gates dual_rail
 worst dual_rail request_rises --first 0........ --second 1........ --hold .========
 worst dual_rail request_falls --first 1........ --second 0........ --hold .========
+gates carry_skip
+strategy=refute
+worst carry_skip carry_skip
