@@ -70,7 +70,7 @@ def conditions(table):
     text = f"Measured on {date}, {os.cpu_count()} processors ({model[1] if model else 'unknown'}): "
     text += f"{least}, each for {asked.seconds} seconds at most."
     if asked.unproved:
-        text += " The program was compiled without proofs, and checks each index and sum as it runs."
+        text += " By the unproved program."
     if asked.table == "speed" and len(asked.programs) == 2:
         text += " Of two figures the first is that before the change."
     lacking = table.lacking + table.unseen

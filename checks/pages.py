@@ -58,7 +58,7 @@ PLANTED = [
     ("| `td_gates` |", "| `td_gate` |"),
 ]
 # Names in backquotes that aren't of the repository: those of other programs.
-NO_NAMES = {"Console", "Lts", "Ln", "afterok", "backoffLimit", "gzip"}
+NO_NAMES = {"Console", "Lts", "Ln", "afterok", "backoffLimit", "gzip", "rtlib.py"}
 # How many names and paths in backquotes all pages have at least.
 NAMED = 500
 # Commands that a page tells of in words.
@@ -102,7 +102,7 @@ NUMBERS = [
     (r"1 to (\d+) workers:", "docs/MANUAL.md", r"threads search, from 1 to (\d+)"),
 ]
 LONGEST_README, README_WORDS = 150, 900
-# The longest that a command of a page may take, in seconds.
+# The longest that a command of a page, or a tool, may take, in seconds.
 LONGEST = 180
 # How many relative links all pages have at least, and how many refusals docs/NETLIST.md has.
 LINKS, REFUSALS = 200, 16
@@ -141,9 +141,8 @@ def renewals(tested):
 def tools(tested):
     """Cases: contracts, numbers of the model, pictures, refusals of the bridges."""
     for tool in ("contracts.py", "model.py", "picture.py", "plots.py", "refusals.py"):
-        done = running.run(
-            [sys.executable, os.path.join(places.TOOLS, tool), "--check"], places.TOP
-        )
+        words = [sys.executable, os.path.join(places.TOOLS, tool), "--check"]
+        done = running.run(words, places.TOP, seconds=LONGEST)
         tested.expect(f"{tool}: {done.out}{done.err}", 0, done.status)
 
 
@@ -215,6 +214,8 @@ def names(tested):
             if re.fullmatch(r"[A-Za-z_]\w*(?:::\w+)*", span) and not span.isupper():
                 parts = [it for it in span.split("::") if not it.isupper() and not is_made(it)]
                 lacking = [it for it in parts if it not in known]
+            elif re.fullmatch(r"[\w-]+\.(?:rt|antt|py|sh|t)", span):
+                lacking = [] if span in known else [span]
             elif re.fullmatch(rf"(?:{folders})/[\w./*-]+", span) and "NAME" not in span:
                 lacking = [] if is_there(span) or "/out/" in span else [span]
             else:

@@ -262,7 +262,7 @@ def written(tested):
     there = "| `adder_8`" in lines[4], "old" in lines
     tested.expect("what stands there", (True, False), there)
     before = tested.read("page.md")
-    status, _, text = table(tested, "strategies", *words[2:])
+    status, _, text = table(tested, "strategies", "--budget", "2000", *words[2:])
     after = tested.read("page.md")
     tested.expect(f"{text}a page without a place", (1, before), (status, after))
     marks = r"(?m)^<!-- Written by (\S+ \w+), to the next comment. -->$"

@@ -2,8 +2,9 @@
 """audit.py --write | --check: the table of wrong bodies in docs/AUDIT.md, made from the edits.
 
 An edit is a file that puts a wrong body in: those of crates/CRATE/must-fail are tried by `rt ci`,
-those of checks/wrong_bodies/CRATE by `checks/wrong_bodies.py`. `--write` puts the table and the
-counts into the page, `--check` ends with status 1 where the page has others.
+those of checks/wrong_bodies/CRATE by `checks/wrong_bodies.py`. The table has the names of the first
+and the numbers of the others. `--write` puts it and the counts into the page, `--check` ends with
+status 1 where the page has others.
 """
 
 import glob
@@ -33,8 +34,8 @@ def edits():
 def table(found):
     rows = ["| Crate | `rt ci` tries | On demand |", "| --- | --- | --- |"]
     for crate, parts in sorted(found.items()):
-        cells = [", ".join(f"`{name}`" for name in names) for names in parts]
-        rows.append(f"| `{crate}` | {cells[0]} | {cells[1]} |")
+        names = ", ".join(f"`{name}`" for name in parts[0])
+        rows.append(f"| `{crate}` | {names} | {len(parts[1]) or ''} |")
     return "\n".join(rows) + "\n"
 
 
