@@ -199,7 +199,7 @@ class Designs:
             printed += ended.out
             commands += len(re.findall(r"^(?:\./tdelay|bridges/|python3 )", own, re.M))
             self.tested.case("command of the page")
-        unit = re.search(r"It says `(exact \d+)`", page)
+        unit = re.search(r"It prints `(exact \d+)`", page)
         if commands < 10 or not unit or f"\n{unit[1]}\n" not in printed:
             self.tested.fault(f"docs/FROM-RTL.md: {commands} commands, which print {printed}")
         self.figure(page, read(folder, "out/alu_8.txt"))
