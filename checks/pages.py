@@ -18,8 +18,8 @@ a file that is there, and to a heading of it. Lines have at most 100 columns, bu
 blocks, in README.md also there, which has at most 150 lines and 900 words; and no page has one of
 the words of tools/words.py. The numbers of README.md are those of the places in NUMBERS. A page
 that isn't read here has no command, or is one of ELSEWHERE, whose check reads it. Each refusal of
-docs/NETLIST.md is what its example gives. Each command, block, text, name, link, page, number and
-refusal is a case.
+docs/NETLIST.md is what its example gives, and each certificate of docs/CERTIFICATE.md is accepted.
+Each command, block, text, name, link, page, number and refusal is a case.
 """
 
 import glob
@@ -108,6 +108,14 @@ LONGEST = 180
 LINKS, REFUSALS = 200, 16
 # Where the examples of docs/NETLIST.md stand.
 FRAME = "module t(a, y);\ninput a;\noutput y;\n{}\nendmodule\n"
+# The gates of which docs/CERTIFICATE.md shows certificates, in its order, with what `check` prints
+# first; those of the last one are a block of the page.
+CERTIFIED = [
+    ("not #(2,3) g(y,a);", "accepted 3"),
+    ("not #1 n(b,a); and #2 g(y,a,b);", "accepted 0"),
+    ("not #(1,5) n(b,a); not #(1,5) g(y,b);", "accepted 6"),
+    (None, "accepted 3"),
+]
 # The lines of reports, and the messages, that are looked for in backquotes.
 LINES = [
     r"(?:exact|accepted|time|nodes|[atmen]) \d+",
@@ -344,6 +352,20 @@ def refusals(tested):
         tested.fault(f"{len(rows)} refusals in docs/NETLIST.md, where there are {REFUSALS}")
 
 
+def certificates(tested):
+    """Cases: each certificate that docs/CERTIFICATE.md shows is accepted."""
+    blocks = [it for language, it in pieces(places.text_of("docs/CERTIFICATE.md")) if not language]
+    shown = [it for it in blocks if it and it.startswith("tdelay-cert ")]
+    modules = [it for it in blocks if it and it.startswith("module ")]
+    tested.expect("docs/CERTIFICATE.md: certificates", len(CERTIFIED), len(shown))
+    for (gates, wanted), text in zip(CERTIFIED, shown):
+        tested.write("t.v", FRAME.format(gates) if gates else modules[-1])
+        tested.write("t.cert", text)
+        said = tested.run("check", "t.v", "t.cert")
+        first = said.out.partition("\n")[0]
+        tested.expect(f"docs/CERTIFICATE.md: {text}: {said.err}", wanted, first)
+
+
 def pieces(text):
     """The pieces of a page in order: prose with None, and blocks with their language."""
     for number, piece in enumerate(re.split(r"^```", text, flags=re.M)):
@@ -481,6 +503,7 @@ def work(tested):
     all_are_read(tested)
     options(tested)
     refusals(tested)
+    certificates(tested)
     with running.folder() as folder:
         pages = Pages(tested, folder)
         for name, least in PAGES.items():
