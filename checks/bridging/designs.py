@@ -7,6 +7,7 @@ import shutil
 
 from lib.places import TOP, text_of
 
+from . import beside
 from .tools import LIBRARY, read, script, tool, write
 
 COUNTER = """module t (input clk, input rst_n, input up, output reg [3:0] q);
@@ -204,6 +205,7 @@ class Designs:
             self.tested.fault(f"docs/FROM-RTL.md: {commands} commands, which print {printed}")
         self.figure(page, read(folder, "out/alu_8.txt"))
         self.tutorial(folder)
+        self.beside()
         self.several()
 
     def tutorial(self, folder):
@@ -219,6 +221,18 @@ class Designs:
         lacking = [line for line in shown[1].splitlines() if line not in printed]
         if ended.status or versions() == VERSIONS and lacking:
             self.tested.fault(f"docs/TUTORIAL.md: {lacking[:1]}: {ended.out}{ended.err}")
+        self.tested.case("command of the page")
+
+    def beside(self):
+        """A row of docs/BESIDE.md: the figures of all three tools, where the tools are those with
+        which the examples were made.
+        """
+        found = beside.row(self.tested.program, self.tested.folder, "bcd_adder").split(" | ")
+        shown = re.search(r"^\| `bcd_adder` .*$", text_of("docs", "BESIDE.md"), re.M)[0].split(" | ")
+        # Every other cell of the rest has seconds.
+        figures = [[row[place] for place in (1, 2, 4, 6, 7)] for row in (found, shown)]
+        if versions() == VERSIONS and figures[0] != figures[1]:
+            self.tested.fault(f"docs/BESIDE.md: {figures[1]}, not {figures[0]}")
         self.tested.case("command of the page")
 
     def several(self):
