@@ -95,10 +95,13 @@ CHANGED = {
 # Pages with commands that a check reads which has the tools for them.
 ELSEWHERE = {"docs/FROM-RTL.md": "bridging/designs.py", "docs/MANY-MACHINES.md": "parts.py"}
 # Numbers of README.md, each with the page or script that has it too.
-COSTS = "docs/FIGURES.md"
+COSTS, BESIDE = "docs/FIGURES.md", "docs/BESIDE.md"
 NUMBERS = [
     (r"\((\d+) seconds on\s+four\s+processors", COSTS, r"c17\.v`, the first \| \S+ 3` \| (\d+) \|"),
     (r"(\d+)\s+minutes\s+on\s+two\s+processors", COSTS, r"\| 2 \| (\d+) minutes \|"),
+    (r"\| ([\d.]+) ps \(OpenSTA\)", BESIDE, r"`carry_skip` \| 33 \| ([\d.]+) \|"),
+    (r"(\d+) ps after 10,000 ", BESIDE, r"`carry_skip` \|(?: [\d.]+ \|){3} (\d+) \|"),
+    (r"\*\*(\d+) ps\*\*", BESIDE, r"`carry_skip` \|(?: [\d.]+ \|){6} (\d+) \|"),
     (r"1 to (\d+) workers:", "docs/MANUAL.md", r"threads search, from 1 to (\d+)"),
 ]
 LONGEST_README, README_WORDS = 150, 900

@@ -76,6 +76,9 @@ def row(program, folder, name):
             raise RuntimeError(f"{words}: {ended.err}")
     timer, timer_seconds = timed(lambda: tool(["sta", "-exit", f"{name}.tcl"], folder))
     arrival = number(timer.out, r"([\d.]+) +data arrival time", "OpenSTA")
+    equal, solver_seconds = timed(lambda: script(folder, "equivalent.sh", design, name, LIBRARY, name))
+    if equal.status:
+        raise RuntimeError(f"equivalent.sh: {equal.err}")
     gates = read(folder, f"{name}.v")
     write(folder, "bench.v", bench(Module(gates)))
     made = tool([*IVERILOG, "-s", "bench", "-o", "bench.vvp", f"{name}.v", "bench.v"], folder)
@@ -88,19 +91,21 @@ def row(program, folder, name):
         raise RuntimeError(f"{name}: {greatest}, {exact} and {bound} contradict each other")
     cells = [f"`{name}`", len(bits_of(Module(gates).inputs)), f"{float(arrival) * 1000:.1f}"]
     cells += [f"{timer_seconds:.1f}", greatest, f"{simulator_seconds:.1f}", bound, exact]
-    return "| " + " | ".join(str(it) for it in [*cells, f"{own_seconds:.1f}"]) + " |"
+    cells += [f"{own_seconds:.1f}", f"{solver_seconds:.1f}"]
+    return "| " + " | ".join(str(it) for it in cells) + " |"
 
 
 def main(words):
     if not words or words[1:] not in ([], ["--write"]):
         sys.exit(__doc__)
     heads = ["Design", "Inputs", "OpenSTA, ps", "seconds", "Icarus, ps", "seconds"]
-    heads += ["`bound --edges`, ps", "`worst`, ps", "seconds"]
+    heads += ["`bound --edges`, ps", "`worst`, ps", "seconds", "ABC, seconds"]
     lines = [f"| {' | '.join(heads)} |", f"| {' | '.join(['---'] * len(heads))} |"]
     with folder_of() as own:
         lines += [row(os.path.abspath(words[0]), own, name) for name in DESIGNS]
     date = time.strftime("%d %B %Y", time.gmtime()).lstrip("0")
-    lines += ["", f"Measured on {date}: processor seconds, Icarus with {PAIRS:,} random pairs."]
+    lines += ["", f"Measured on {date}: processor seconds; Icarus with {PAIRS:,} random pairs; ABC"]
+    lines += ["proves, and Icarus tries, that the gates do what the RTL does (`bridges/equivalent.sh`)."]
     text = "\n".join(lines) + "\n"
     print(text, end="")
     if words[1:]:
