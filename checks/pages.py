@@ -330,7 +330,12 @@ def options(tested):
     """Cases: the manual's commands are those of `--help`, and its tables of options those that
     tools/options.py makes of it.
     """
-    manual, (_, helps) = places.text_of("docs/MANUAL.md"), help_text.read(tested.program)
+    manual = places.text_of("docs/MANUAL.md")
+    try:
+        _, helps = help_text.read(os.path.abspath(tested.program))
+    except SystemExit as why:
+        tested.expect("the program has help", "", str(why))
+        return
     tested.expect("the commands", sorted(COMMANDS.split("|")), sorted(helps))
     headings = re.findall(r"^## `(\w+)`", manual, flags=re.M)
     tested.expect("docs/MANUAL.md: the commands", sorted(helps), sorted(headings))

@@ -9,6 +9,7 @@ function or a law of MAIN isn't there. `--write` puts the table into the page. R
 folder.
 """
 
+import functools
 import glob
 import os
 import re
@@ -137,6 +138,7 @@ def text_of(*parts):
         return file.read()
 
 
+@functools.cache
 def sources(crate, files="*.rt"):
     """The contracts of a crate's public functions that ensure something, by name."""
     by_name = {}
@@ -147,6 +149,7 @@ def sources(crate, files="*.rt"):
     return by_name
 
 
+@functools.cache
 def first_sentence(crate):
     """The first sentence of the comment of a crate's module."""
     name = next(it for it in ("lib.rt", "main.rt") if it in os.listdir(f"{TOP}/crates/{crate}/src"))
