@@ -133,7 +133,10 @@ def collection(table):
     files = os.listdir(table.asked.netlists)
     names = sorted(it[:-2] for it in files if it.endswith(".v") and not it.endswith(".rtl.v"))
     names = [it for it in names if table.is_asked(it)]
-    table.head("Strategy", "Netlists", "Exact, accepted", "Between", "Did not end", "Seconds in all, the most")
+    table.head(
+        "Strategy", "Netlists", "Exact, accepted", "Between", "Did not end",
+        "Seconds in all, the most",
+    )  # fmt: skip
     left = []
     for strategy in asked:
         words = words_of(strategy, table.asked.budget)
