@@ -6,7 +6,7 @@ use Rattle.std.specs.Str.{bytes_eq}
 use Rattle.std.proofs.lemmas.Bool.{cases_eq, cases_lt}
 use Rattle.std.proofs.lemmas.Slice.Eq.{bytes_eq-Decides}
 use Rattle.std.proofs.lemmas.Option.{slice_get-get_or}
-use Rattle.std.proofs.lemmas.List.{length-map, get_or_past}
+use Rattle.std.proofs.lemmas.List.{length-map, get_or_past, take_all}
 use Rattle.td_gates.proofs.Places.{some-same, slice_get-some, slice_get-within, slice_get-get, slice_get-map_some, slice_get-Contains, Contains-slice_get}
 use Rattle.td_gates.specs.declared.primitives.Level.TheVariants.{Zero, X}
 use Rattle.td_gates.specs.Wave.{Wave, last}
@@ -96,6 +96,25 @@ chain_named circuit waves net links chain place link at =
     let named = all_named circuit.netlist waves chain.first chain.others chain.end chain.leads (chain.begins.name, chain.begins.net) place
     (link_of (nets circuit) link) (ap (λ l. slice_get l place) (sym chain.parts) ∙ there) in
     (named.0, named_there (nets circuit) link.net named.0 named.1)
+
+-- one more change
+abbrev pub change_in : Numbered → code.Link → Change
+change_in circuit link = change_of (link_of (nets circuit) link)
+
+pub changes_more : (circuit : Numbered) (links : List code.Link) (i : ℕ) (link : code.Link) (changes new : List Change) (change : Change)
+    → slice_get links i ≡ Some link → i < length links → changes ≡ map (change_in circuit) (take i links)
+    → change ≡ change_in circuit link → new ≡ changes ++ change ∷ [] → new ≡ map (change_in circuit) (take (i + 1) links)
+changes_more circuit links i link changes new change at less before is added = mapped_more (change_in circuit) links i link changes new change at less before is added
+
+mapped_twice : (circuit : Numbered) (links : List code.Link) → map (change_in circuit) links ≡ map change_of (map (link_of (nets circuit)) links)
+mapped_twice circuit [] = refl
+mapped_twice circuit (link ∷ links) = ap (λ (cs : List Change). change_in circuit link ∷ cs) (mapped_twice circuit links)
+
+-- all changes
+pub changes_all : (circuit : Numbered) (links : List code.Link) (i : ℕ) (changes : List Change) → length links ≤ i
+    → changes ≡ map (change_in circuit) (take i links) → changes ≡ map change_of (map (link_of (nets circuit)) links)
+changes_all circuit links i changes past before =
+    before ∙ ap (map (change_in circuit)) (take_all i links past) ∙ mapped_twice circuit links
 
 -- the line of the links by number tells the chain
 pub tells_chain : (circuit : Numbered) (waves : Net → Wave) (output : Name) (links : List code.Link) (told : Line)
