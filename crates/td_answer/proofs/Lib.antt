@@ -5,3 +5,5 @@ pub mod LatestBound
 pub mod Judged
 pub mod Searched
 pub mod Listing
+pub mod Zips
+pub mod Whole
