@@ -48,7 +48,7 @@ fn output_number(terms: &Terms) -> Option<u64>
 
 /// Appends how the netlist is read, where that is told.
 fn push_terms(report: &mut Report, terms: Option<&Terms>) -> Result<(), AllocError>
-    ensures { OnOk result (report.new ≡ report.old ++ terms_lines (option_map (λ terms. terms.now) terms)) }
+    ensures { OnOk result (report.new ≡ report.old ++ terms_lines (option_map (λ terms. terms.now) terms.entry)) }
 {
     let Some(terms) = terms else {
         return Ok(());
