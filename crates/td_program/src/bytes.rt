@@ -1,0 +1,111 @@
+//! The bytes of the files that a request names.
+
+use crate::conflict::conflict_of;
+use crate::fault::{Fault, unread};
+use crate::outputs::overwriting;
+use std::alloc::Global;
+use td_answer::Texts;
+use td_files::{Files, ReadFault};
+use td_request::{Command, Request};
+
+/// The bytes of the files that a request names.
+#[derive(Drop)]
+pub(crate) struct Bytes {
+    netlist: Vec<u8>,
+    certificates: Vec<Vec<u8>>,
+}
+
+impl Bytes {
+    /// The texts of the files.
+    pub(crate) fn texts(&self) -> Texts<'_, '_> {
+        Texts {
+            netlist: &self.netlist,
+            certificates: &self.certificates,
+        }
+    }
+}
+
+/// The bytes of a file.
+fn bytes_of<'w, F: Files>(
+    alloc: Global,
+    name: &'w str,
+    files: &mut F,
+) -> Result<Vec<u8>, Fault<'w>> {
+    match files.read(alloc, name) {
+        Ok(bytes) => Ok(bytes),
+        Err(fault) => Err(unread(name, fault)),
+    }
+}
+
+/// The bytes of the one certificate of a check.
+fn bytes_of_one<'w, F: Files>(
+    alloc: Global,
+    name: &'w str,
+    files: &mut F,
+) -> Result<Vec<Vec<u8>>, Fault<'w>> {
+    let bytes = bytes_of(alloc, name, files)?;
+    let mut all = Vec::new(alloc);
+    all.push(bytes)?;
+    Ok(all)
+}
+
+/// The bytes of files, in order, up to the first that a device fails to read: what is wrong with
+/// those before it is said first.
+fn bytes_of_parts<'w, F: Files>(
+    alloc: Global,
+    names: &[&'w str],
+    files: &mut F,
+) -> Result<Vec<Vec<u8>>, Fault<'w>> {
+    let mut all = Vec::new(alloc);
+    for name in names {
+        match files.read(alloc, name) {
+            Ok(bytes) => all.push(bytes)?,
+            Err(ReadFault::OutOfMemory) => return Err(Fault::OutOfMemory),
+            Err(ReadFault::Device) => return Ok(all),
+        }
+    }
+    Ok(all)
+}
+
+/// The bytes of the certificates that a command reads, in the order in which it names them.
+fn certificates_of<'w, F: Files>(
+    alloc: Global,
+    command: &Command<'w>,
+    files: &mut F,
+) -> Result<Vec<Vec<u8>>, Fault<'w>> {
+    match command {
+        Command::Check(check) => bytes_of_one(alloc, check.certificate, files),
+        Command::Join(join) => bytes_of_parts(alloc, join.parts.names(), files),
+        _ => Ok(Vec::new(alloc)),
+    }
+}
+
+/// Reads each file that a request names once.
+fn read<'w, F: Files>(
+    alloc: Global,
+    request: &Request<'w>,
+    files: &mut F,
+) -> Result<Bytes, Fault<'w>> {
+    let netlist = bytes_of(alloc, request.file, files)?;
+    let certificates = certificates_of(alloc, &request.command, files)?;
+    Ok(Bytes {
+        netlist,
+        certificates,
+    })
+}
+
+/// The bytes of the files that a request names, each of which is read once. Nothing is read where
+/// its options don't go together, or one of its files would be written over another.
+pub(crate) fn bytes_for<'w, F: Files>(
+    alloc: Global,
+    request: &Request<'w>,
+    files: &mut F,
+) -> Result<Bytes, Fault<'w>> {
+    if let Some(conflict) = conflict_of(request) {
+        return Err(Fault::Conflict(conflict));
+    }
+    match overwriting(files, request) {
+        Some(fault) => Err(fault),
+        None => read(alloc, request, files),
+    }
+}

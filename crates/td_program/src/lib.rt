@@ -1,0 +1,30 @@
+//! The program as a function of its words, files and streams.
+//!
+//!     words ──asked──▶ Request ──each file that it names, read once──▶ Bytes
+//!           ──answer──▶ Outcome ──▶ report to out, certificate and waves to files
+//!                     ╲ Refusal ──▶ sentence and hint to err
+//!
+//! `program` is all that `main` calls. A fault of the shell (`Fault`) is one of files and streams; a
+//! refusal is one of what the texts say.
+#![tactic(auto)]
+
+mod advice;
+mod bytes;
+mod conflict;
+mod delivery;
+mod endings;
+mod fault;
+mod hint;
+mod lines;
+mod message;
+mod names;
+mod outputs;
+mod print;
+mod program;
+mod progress;
+mod refusals;
+mod usage;
+mod vectors;
+
+pub use advice::{Advice, NoAdvice, System};
+pub use program::{carry_out, program, refuse_words, run, run_plain};

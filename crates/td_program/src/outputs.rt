@@ -1,0 +1,86 @@
+//! The files that a request writes.
+
+use crate::fault::Fault;
+use td_files::Files;
+use td_request::{Command, Request};
+
+/// The names of the files that a request writes: the certificate's and the waves'.
+#[derive(Clone, Copy, Drop)]
+pub(crate) struct Outputs<'w> {
+    pub(crate) certificate: Option<&'w str>,
+    pub(crate) dump: Option<&'w str>,
+}
+
+/// The names of the files that a request writes.
+pub(crate) fn outputs_of<'w>(request: &Request<'w>) -> Outputs<'w> {
+    let (certificate, dump) = match &request.command {
+        Command::Worst(search) => (search.certificate, search.dump),
+        Command::Sim(sim) => (None, sim.dump),
+        Command::Join(join) => (join.certificate, None),
+        _ => (None, None),
+    };
+    Outputs { certificate, dump }
+}
+
+/// Why a request isn't carried out that would write one of its files over another: the netlist or a
+/// part's certificate that it reads, or the other file that it writes.
+pub(crate) fn overwriting<'w, F: Files>(
+    files: &mut F,
+    request: &Request<'w>,
+) -> Option<Fault<'w>> {
+    let outputs = outputs_of(request);
+    if let Some(fault) = over_read(files, outputs.certificate, request.file) {
+        return Some(fault);
+    }
+    if let Some(fault) = over_read(files, outputs.dump, request.file) {
+        return Some(fault);
+    }
+    match &request.command {
+        Command::Join(join) => over_one_of(files, outputs.certificate, join.parts.names()),
+        _ => over(files, outputs.dump, outputs.certificate),
+    }
+}
+
+/// One file in place of one of those that are read.
+fn over_one_of<'w, F: Files>(
+    files: &mut F,
+    out: Option<&'w str>,
+    names: &[&'w str],
+) -> Option<Fault<'w>> {
+    for name in names {
+        if let Some(fault) = over_read(files, out, name) {
+            return Some(fault);
+        }
+    }
+    None
+}
+
+/// One file in place of one that is read.
+fn over_read<'w, F: Files>(
+    files: &mut F,
+    out: Option<&'w str>,
+    file: &'w str,
+) -> Option<Fault<'w>> {
+    over(files, out, Some(read_as(file)))
+}
+
+/// The name under which a file is read: `-` is `stdin`.
+fn read_as(name: &str) -> &str {
+    if name == "-" { "stdin" } else { name }
+}
+
+/// One file in place of another, where both are named.
+fn over<'w, F: Files>(
+    files: &mut F,
+    out: Option<&'w str>,
+    file: Option<&'w str>,
+) -> Option<Fault<'w>> {
+    let (Some(out), Some(file)) = (out, file) else {
+        return None;
+    };
+    if files.are_one(out, file) {
+        Some(Fault::OneFile(out, file))
+    } else {
+        None
+    }
+}

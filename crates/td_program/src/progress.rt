@@ -1,0 +1,113 @@
+//! Lines on standard error that say how far a search has come.
+
+use crate::message::tell;
+use std::alloc::{AllocError, Global};
+use std::time::{Clock, Instant};
+use td_lines::Text;
+use td_pool::{Progress, Watch};
+use td_search::Problem;
+use td_text::Sink;
+
+/// After how many seconds without a line one is due.
+const DUE: u64 = 10;
+
+/// Writes a line for each step of progress that it gets, and is due when it wrote none for ten
+/// seconds. Where it can't write the line, or memory is refused, the search goes on.
+#[derive(Drop)]
+pub(crate) struct ProgressLines<'r, 'e, R, E> {
+    clock: &'r R,
+    began: Option<Instant>,
+    /// When the last line was written, or the search began.
+    last: Option<Instant>,
+    alloc: Global,
+    pub(crate) err: &'e mut E,
+}
+
+impl<'r, 'e, R: Clock, E: Sink> ProgressLines<'r, 'e, R, E> {
+    /// The lines of a search that begins now.
+    pub(crate) fn new(clock: &'r R, alloc: Global, err: &'e mut E) -> Self {
+        let began = now(clock);
+        ProgressLines {
+            clock,
+            began,
+            last: began,
+            alloc,
+            err,
+        }
+    }
+}
+
+/// A clock's time, if it can be read.
+fn now<R: Clock>(clock: &R) -> Option<Instant> {
+    match Instant::now(clock) {
+        Ok(now) => Some(now),
+        Err(_) => None,
+    }
+}
+
+/// How many seconds have passed since a moment, if the clock can be read.
+fn seconds_since<R: Clock>(clock: &R, moment: Option<Instant>) -> Option<u64> {
+    let moment = moment?;
+    let now = now(clock)?;
+    Some(now.duration_since(moment).as_secs())
+}
+
+/// The line that says this.
+fn line_of(alloc: Global, progress: Progress, seconds: Option<u64>) -> Result<Text, AllocError> {
+    let mut text = Text::new(alloc);
+    push_figures(&mut text, progress)?;
+    push_pace(&mut text, progress.nodes, seconds)?;
+    text.push(b"\n")?;
+    Ok(text)
+}
+
+/// Appends how far a search has come.
+fn push_figures(text: &mut Text, progress: Progress) -> Result<(), AllocError> {
+    text.number_behind(b"nodes ", progress.nodes)?;
+    text.number_behind(b" low ", progress.low)?;
+    text.number_behind(b" high ", progress.high)?;
+    text.number_behind(b" open ", progress.open)
+}
+
+/// Appends how many seconds have passed, if they are known, and how many nodes were handled in each.
+fn push_pace(text: &mut Text, nodes: u64, seconds: Option<u64>) -> Result<(), AllocError> {
+    match seconds {
+        Some(seconds) => {
+            text.number_behind(b" seconds ", seconds)?;
+            text.number_behind(b" rate ", nodes / seconds.max(1))
+        }
+        None => Ok(()),
+    }
+}
+
+impl<'r, 'e, R: Clock, E: Sink> Watch for ProgressLines<'r, 'e, R, E> {
+    ghost use Rattle.std.specs.Prelude.{⊤};
+
+    ghost reported = { λ _ _ _. ⊤ };
+
+    fn is_looking(&self) -> bool {
+        true
+    }
+
+    fn is_due(&self) -> bool {
+        match seconds_since(self.clock, self.last) {
+            Some(seconds) => seconds >= DUE,
+            None => false,
+        }
+    }
+
+    fn passed(&mut self, _problem: &Problem<'_>, progress: Progress) {
+        let seconds = seconds_since(self.clock, self.began);
+        self.last = now(self.clock);
+        let Ok(line) = line_of(self.alloc, progress, seconds) else {
+            return;
+        };
+        tell(self.err, line.bytes());
+    }
+
+    ghost reported_nothing = { λ _ _. tt };
+
+    ghost reported_both = { λ _ _ _ _ _ _. tt };
+
+    ghost reported_alike = { λ _ _ _ _ _. tt };
+}

@@ -1,0 +1,38 @@
+//! `tdelay`: worst transition delay of a netlist of Verilog gate primitives.
+#![tactic(auto)]
+
+use std::env::Env;
+use std::io::IsTerminal;
+use std::process::ExitCode;
+use std::{env, io};
+use td_files::{ReadFault, RealFiles, WriterSink};
+use td_program::{program, refuse_words};
+use td_terminal::InPlace;
+
+/// Whether the terminal knows codes that move its cursor.
+fn knows_codes<R: Env + Alloc>(rt: &R) -> bool {
+    match env::var(rt, "TERM") {
+        Ok(term) => term.as_str() != "dumb",
+        Err(_) => false,
+    }
+}
+
+fn main(rt: HostRuntime) -> ExitCode {
+    let alloc = rt.alloc();
+    let terminal = rt.stderr().is_terminal();
+    let mut files = RealFiles::new(&rt);
+    let mut out = WriterSink::new(rt.stdout());
+    let mut err = InPlace::new(WriterSink::new(rt.stderr()), terminal && knows_codes(&rt));
+    let words: io::Result<Vec<String>> = match env::args(&rt) {
+        Ok(words) => words.collect(alloc).map_err(io::Error::from),
+        Err(error) => Err(error),
+    };
+    let status = match words {
+        Ok(words) => {
+            let words = words.as_slice();
+            program(&rt, alloc, words, &mut files, &mut out, &mut err, terminal)
+        }
+        Err(error) => refuse_words(ReadFault::from(error), &mut err),
+    };
+    ExitCode::from(status.code())
+}
