@@ -67,5 +67,6 @@ pub(crate) fn verdict_on<'n, 'w>(
         certificate: None,
         dump: None,
         status: ending(checked.verdict),
+        verdict: Some(checked.verdict),
     })
 }

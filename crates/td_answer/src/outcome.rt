@@ -2,6 +2,7 @@
 
 use crate::status::Status;
 use td_certificate::Certificate;
+use td_checker::Verdict;
 use td_circuit::Circuit;
 use td_lines::Report;
 use td_run::Run;
@@ -21,6 +22,8 @@ pub struct Outcome {
     pub certificate: Option<Certificate>,
     pub dump: Option<Waves>,
     pub status: Status,
+    /// The verdict on the certificate of a check.
+    pub verdict: Option<Verdict>,
 }
 
 impl Outcome {
@@ -33,12 +36,14 @@ impl Outcome {
         ensures certificate { result.certificate ≡ None }
         ensures dump { result.dump ≡ None }
         ensures status { result.status ≡ ending.Done }
+        ensures verdict { result.verdict ≡ None }
     {
         Outcome {
             report,
             certificate: None,
             dump: None,
             status: Status::Done,
+            verdict: None,
         }
     }
 }

@@ -107,6 +107,7 @@ fn outcome_of(
         certificate,
         dump,
         status,
+        verdict: None,
     })
 }
 
