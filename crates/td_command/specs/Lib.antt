@@ -4,3 +4,4 @@ pub mod Flags
 pub mod Telling
 pub mod Saying
 pub mod Parting
+pub mod Faults

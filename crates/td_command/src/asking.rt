@@ -1,9 +1,10 @@
 //! The words of a command line as a request, parsed once.
 
-ghost use Rattle.std.specs.Prelude.{◌≡◌, List, codes, None, IfSome, IfOk};
-ghost use Rattle.clap.specs.Words.{found_of, rows_of, subcommand_rows_of};
+ghost use Rattle.std.specs.Prelude.{◌≡◌, List, codes, None, IfSome, IfOk, IfErr};
+ghost use Rattle.clap.specs.Words.{HasKind, found_of, rows_of, subcommand_rows_of};
 ghost use Rattle.td_inputs.specs.declared.scanning.Taken.{Taken};
-ghost use Rattle.td_command.specs.CommandLine.{HasWord, HasWords};
+ghost use Rattle.td_command.specs.CommandLine.{HasWord, HasWords, kinds_of};
+ghost use Rattle.td_command.specs.Faults.{HasFault, all_of};
 ghost use Rattle.td_command.specs.Saying.{IsGiven, SaysInputs, SaysQuestion, SaysStrategy, SaysEffort, SaysShown, SaysForm, is_about_all, SaysReading, SaysCommon, SaysCommand, SaysRequest, EntersRequest, AskFor};
 
 use crate::certificates::words_given;
@@ -341,10 +342,13 @@ fn request<'a>(
 /// What the parser says of the words as they came, where the command doesn't take what they say of
 /// inputs by name.
 fn untaken<'a>(alloc: Global, words: &Words<'_>) -> Result<Option<Request<'a>>, Error>
-    ensures { IfOk result (λ asked. asked ≡ None) }
+    ensures asked { IfOk result (λ asked. asked ≡ None) }
+    ensures fault { IfErr result (HasKind (kinds_of (all_of words.now))) }
 {
-    let _taken = command(alloc)?.try_get_matches_from(words.all.as_slice())?;
-    Ok(None)
+    match command(alloc)?.try_get_matches_from(words.all.as_slice()) {
+        Ok(_taken) => Ok(None),
+        Err(error) => Err(error),
+    }
 }
 
 /// What the command that was entered is asked, if it takes what is said of inputs by name.
@@ -353,7 +357,8 @@ fn entered<'a>(
     matches: &ArgMatches<'a>,
     words: &'a Words<'a>,
 ) -> Result<Option<Request<'a>>, Error>
-    ensures { IfOk result (λ asked. IfSome asked (EntersRequest (subcommand_rows_of matches.now) words.entry.now.named.items)) }
+    ensures asked { IfOk result (λ asked. IfSome asked (EntersRequest (subcommand_rows_of matches.now) words.entry.now.named.items)) }
+    ensures fault { IfErr result (HasFault words.entry.now) }
 {
     match matches.subcommand() {
         Some((name, matches)) => {
@@ -373,8 +378,11 @@ fn entered<'a>(
 ///
 /// A fault of the words, or help. None where they ask for no command.
 pub fn asked<'a>(alloc: Global, words: &'a Words<'a>) -> Result<Option<Request<'a>>, Error>
-    ensures { IfOk result (λ asked. IfSome asked (AskFor words.entry.now)) }
+    ensures asked { IfOk result (λ asked. IfSome asked (AskFor words.entry.now)) }
+    ensures fault { IfErr result (HasFault words.entry.now) }
 {
-    let matches = command(alloc)?.try_get_matches_from(words.plain.as_slice())?;
-    entered(alloc, &matches, words)
+    match command(alloc)?.try_get_matches_from(words.plain.as_slice()) {
+        Ok(matches) => entered(alloc, &matches, words),
+        Err(error) => Err(error),
+    }
 }

@@ -17,7 +17,7 @@ use std::time::Clock;
 use td_answer::{Outcome, Refusal, Status, Texts, answer, answer_plain};
 use td_command::{Words, asked};
 use td_files::{Files, ReadFault};
-use td_pool::{Unwatched, take_back};
+use td_pool::take_back;
 use td_request::{Command, Request};
 use td_text::Sink;
 
@@ -39,8 +39,17 @@ pub fn program<
     err: &mut E,
     terminal: bool,
 ) -> Status {
-    let system = System::new(rt, terminal);
-    said(rt, alloc, words, files, out, err, &system)
+    let words = match words_of(alloc, words, err) {
+        Ok(words) => words,
+        Err(status) => return status,
+    };
+    match request_of(alloc, &words, out, err) {
+        Ok(request) => {
+            let system = System::new(rt, terminal);
+            carry_out(rt, alloc, &request, files, out, err, &system)
+        }
+        Err(status) => status,
+    }
 }
 
 /// The specification's call: as `program`, without hints.
@@ -52,7 +61,14 @@ pub fn run<R: Threads + Wait + Clock + Sync, S: AsStr, F: Files, O: Sink, E: Sin
     out: &mut O,
     err: &mut E,
 ) -> Status {
-    said(rt, alloc, words, files, out, err, &NoAdvice)
+    let words = match words_of(alloc, words, err) {
+        Ok(words) => words,
+        Err(status) => return status,
+    };
+    match request_of(alloc, &words, out, err) {
+        Ok(request) => carry_out(rt, alloc, &request, files, out, err, &NoAdvice),
+        Err(status) => status,
+    }
 }
 
 /// The specification's call without threads: None, with nothing read or written, where the words
@@ -64,17 +80,16 @@ pub fn run_plain<S: AsStr, F: Files, O: Sink, E: Sink>(
     out: &mut O,
     err: &mut E,
 ) -> Option<Status> {
-    let words = match Words::new(alloc, words) {
+    let words = match words_of(alloc, words, err) {
         Ok(words) => words,
-        Err(_) => return Some(tell_fault(alloc, Fault::OutOfMemory, err)),
+        Err(status) => return Some(status),
     };
-    match asked(alloc, &words) {
-        Ok(Some(request)) => match request.command {
+    match request_of(alloc, &words, out, err) {
+        Ok(request) => match request.command {
             Command::Worst(_) => None,
             _ => Some(carry_out_plain(alloc, &request, files, out, err)),
         },
-        Ok(None) => Some(Status::BadCommand),
-        Err(error) => Some(tell_usage(alloc, &error, out, err)),
+        Err(status) => Some(status),
     }
 }
 
@@ -93,56 +108,31 @@ pub fn refuse_words<E: Sink>(fault: ReadFault, err: &mut E) -> Status {
     }
 }
 
-/// Carries out what the words ask for.
-fn said<R: Threads + Wait + Clock + Sync, S: AsStr, F: Files, O: Sink, E: Sink, A: Advice>(
-    rt: &R,
+/// The words of a command line, or how the program ends where memory runs out.
+fn words_of<'w, S: AsStr, E: Sink>(
     alloc: Global,
-    words: &[S],
-    files: &mut F,
+    words: &'w [S],
+    err: &mut E,
+) -> Result<Words<'w>, Status> {
+    match Words::new(alloc, words) {
+        Ok(words) => Ok(words),
+        Err(_) => Err(tell_fault(alloc, Fault::OutOfMemory, err)),
+    }
+}
+
+/// What the words ask for, or how the program ends once it has told what is wrong with them, or
+/// help.
+fn request_of<'w, O: Sink, E: Sink>(
+    alloc: Global,
+    words: &'w Words<'w>,
     out: &mut O,
     err: &mut E,
-    advice: &A,
-) -> Status {
-    let words = match Words::new(alloc, words) {
-        Ok(words) => words,
-        Err(_) => return tell_fault(alloc, Fault::OutOfMemory, err),
-    };
-    match asked(alloc, &words) {
-        Ok(Some(request)) => carry_out(rt, alloc, &request, files, out, err, advice),
-        Ok(None) => Status::BadCommand,
-        Err(error) => tell_usage(alloc, &error, out, err),
+) -> Result<Request<'w>, Status> {
+    match asked(alloc, words) {
+        Ok(Some(request)) => Ok(request),
+        Ok(None) => Err(refuse_words(ReadFault::Device, err)),
+        Err(error) => Err(tell_usage(alloc, &error, out, err)),
     }
-}
-
-/// The outcome of a request. Where its progress is asked for, lines on standard error say how far
-/// the search has come.
-fn outcome_of<'n, 'c, 'w, R: Threads + Wait + Clock + Sync, E: Sink>(
-    rt: &R,
-    alloc: Global,
-    request: &Request<'w>,
-    texts: &Texts<'n, 'c>,
-    err: &mut E,
-) -> Result<Outcome, Refusal<'n, 'w>> {
-    match &request.command {
-        Command::Worst(search) if search.shown.progress => {
-            watched(rt, alloc, request, texts, err)
-        }
-        _ => answer(rt, alloc, request, texts, &mut Unwatched),
-    }
-}
-
-fn watched<'n, 'c, 'w, R: Threads + Wait + Clock + Sync, E: Sink>(
-    rt: &R,
-    alloc: Global,
-    request: &Request<'w>,
-    texts: &Texts<'n, 'c>,
-    err: &mut E,
-) -> Result<Outcome, Refusal<'n, 'w>> {
-    let mut lines = ProgressLines::new(rt, alloc, err);
-    let outcome = answer(rt, alloc, request, texts, &mut lines);
-    let ProgressLines { err, .. } = lines;
-    take_back(err);
-    outcome
 }
 
 /// Carries out a request: reads each file that it names once, and prints the outcome of these
@@ -161,9 +151,21 @@ pub fn carry_out<R: Threads + Wait + Clock + Sync, F: Files, O: Sink, E: Sink, A
         Err(fault) => return stop(alloc, request, fault, err, advice),
     };
     let texts = bytes.texts();
-    match outcome_of(rt, alloc, request, &texts, err) {
+    let mut watch = ProgressLines::new(rt, alloc, shows_progress(request), err);
+    let judged = answer(rt, alloc, request, &texts, &mut watch);
+    let ProgressLines { err, .. } = watch;
+    take_back(err);
+    match judged {
         Ok(outcome) => finish(alloc, request, &outcome, files, out, err, advice),
         Err(refusal) => refuse(alloc, request, &texts, &refusal, err, advice),
+    }
+}
+
+/// Whether a request asks for the progress of its search.
+fn shows_progress(request: &Request<'_>) -> bool {
+    match &request.command {
+        Command::Worst(search) => search.shown.progress,
+        _ => false,
     }
 }
 

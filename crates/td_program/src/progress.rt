@@ -20,18 +20,20 @@ pub(crate) struct ProgressLines<'r, 'e, R, E> {
     /// When the last line was written, or the search began.
     last: Option<Instant>,
     alloc: Global,
+    is_asked: bool,
     pub(crate) err: &'e mut E,
 }
 
 impl<'r, 'e, R: Clock, E: Sink> ProgressLines<'r, 'e, R, E> {
-    /// The lines of a search that begins now.
-    pub(crate) fn new(clock: &'r R, alloc: Global, err: &'e mut E) -> Self {
+    /// The lines of a search that begins now, if they are asked for.
+    pub(crate) fn new(clock: &'r R, alloc: Global, is_asked: bool, err: &'e mut E) -> Self {
         let began = now(clock);
         ProgressLines {
             clock,
             began,
             last: began,
             alloc,
+            is_asked,
             err,
         }
     }
@@ -86,10 +88,13 @@ impl<'r, 'e, R: Clock, E: Sink> Watch for ProgressLines<'r, 'e, R, E> {
     ghost reported = { λ _ _ _. ⊤ };
 
     fn is_looking(&self) -> bool {
-        true
+        self.is_asked
     }
 
     fn is_due(&self) -> bool {
+        if !self.is_asked {
+            return false;
+        }
         match seconds_since(self.clock, self.last) {
             Some(seconds) => seconds >= DUE,
             None => false,
@@ -97,6 +102,9 @@ impl<'r, 'e, R: Clock, E: Sink> Watch for ProgressLines<'r, 'e, R, E> {
     }
 
     fn passed(&mut self, _problem: &Problem<'_>, progress: Progress) {
+        if !self.is_asked {
+            return;
+        }
         let seconds = seconds_since(self.clock, self.began);
         self.last = now(self.clock);
         let Ok(line) = line_of(self.alloc, progress, seconds) else {

@@ -1,0 +1,102 @@
+-- What a request does to standard output.
+use Rattle.std.specs.Prelude.{◌≡◌, ◌≢◌, ◌⊎◌, ℕ, List, [], ◌∷◌, codes, Bool, true, false, ◌||◌, Option, Some, None, map}
+use Rattle.std.specs.Borrow.{Bor}
+use Rattle.std.specs.Global.{Vec}
+use Rattle.std.specs.Str.{bytes_eq}
+use Rattle.td_text.specs.Output.{Output, Sent, SentFront}
+use Rattle.td_lines.specs.declared.line.Line.{Line}
+use Rattle.td_lines.specs.Texts.{report_text}
+use Rattle.td_lines.specs.Values.{report_json}
+use Rattle.td_request.specs.declared.request.Command.{Command}
+use Rattle.td_request.specs.declared.request.Command.TheVariants as command
+use Rattle.td_request.specs.declared.request.Form.{Form}
+use Rattle.td_request.specs.declared.request.Form.TheVariants as form
+use Rattle.td_request.specs.declared.request.Request.{Request}
+use Rattle.td_answer.specs.declared.outcome.Outcome.{Outcome}
+use Rattle.td_answer.specs.declared.status.Status.{Status}
+use Rattle.td_answer.specs.declared.status.Status.TheVariants as status
+use Rattle.td_answer.specs.Outcomes.{SaysTrue}
+use Rattle.td_program.specs.declared.outputs.Outputs.{Outputs}
+use Rattle.td_program.specs.declared.fault.Fault.{Fault}
+use Rattle.td_program.specs.declared.fault.Fault.TheVariants as fault
+
+-- a report in its form
+abbrev pub print_of : Form → List Line → List ℕ
+print_of form.Text report = report_text report
+print_of form.Json report = report_json report
+print_of form.Quiet report = []
+
+-- the files that a command writes
+abbrev pub outputs_of : Command → Outputs
+outputs_of (command.Worst search) = record { certificate = search.certificate; dump = search.dump }
+outputs_of (command.Sim sim) = record { certificate = None; dump = sim.dump }
+outputs_of (command.Join join) = record { certificate = join.certificate; dump = None }
+outputs_of other = record { certificate = None; dump = None }
+
+-- a file goes to standard output
+abbrev pub goes_out : Option (Bor (List ℕ)) → Bool
+goes_out None = false
+goes_out (Some name) = bytes_eq name.now (codes "-")
+
+-- one of the files that a command writes does, in place of the report
+abbrev pub HasPlace : Command → Type 0
+HasPlace asked = (goes_out (outputs_of asked).certificate || goes_out (outputs_of asked).dump) ≡ true
+
+-- the print of an outcome went out whole, or a file did in its place
+abbrev pub IsShown : Request → Outcome → Output → Output → Type 0
+IsShown request outcome old new = Sent old new (print_of request.form outcome.report) ⊎ (HasPlace request.command × (new ≡ old))
+
+-- What went out of an outcome is a beginning of its print. Unless a device failed or memory ran out,
+-- it is whole, and the program ends as the outcome says.
+pub record Prints (request : Request) (outcome : Outcome) (ending : Status) (old new : Output) : Type 0 where
+  pub shown : SentFront old new (print_of request.form outcome.report)
+  pub whole : (ending ≡ status.Device) ⊎ ((ending ≡ outcome.status) × IsShown request outcome old new)
+
+-- the certificates that a command reads, in order
+abbrev pub certificate_names : Command → List (List ℕ)
+certificate_names (command.Check asked) = asked.certificate.now ∷ []
+certificate_names (command.Join asked) = asked.parts
+certificate_names other = []
+
+-- the files of the first of these names hold these texts, one for each
+abbrev pub AreHeld : (List ℕ → List ℕ → Type 0) → List (List ℕ) → List (List ℕ) → Type 0
+AreHeld holds names [] = Unit {0}
+AreHeld holds [] (text ∷ texts) = ⊥
+AreHeld holds (name ∷ names) (text ∷ texts) = holds name text × AreHeld holds names texts
+
+-- the texts of the files that a request names; of certificates there may be fewer
+pub record Holds (holds : List ℕ → List ℕ → Type 0) (request : Request) (netlist : List ℕ) (certificates : List (List ℕ)) : Type 0 where
+  pub file : holds request.file.now netlist
+  pub others : AreHeld holds (certificate_names request.command) certificates
+
+-- an outcome that is true of what the files hold was printed
+pub record PrintsTrue (holds : List ℕ → List ℕ → Type 0) (request : Request) (ending : Status) (old new : Output) : Type 0 where
+  pub netlist : List ℕ
+  pub certificates : List (List ℕ)
+  pub held : Holds holds request netlist certificates
+  pub outcome : Outcome
+  pub is_true : SaysTrue request netlist certificates outcome
+  pub prints : Prints request outcome ending old new
+
+-- how the program ends where there is no outcome
+abbrev pub is_refusal : Status → Bool
+is_refusal status.Done = false
+is_refusal status.Between = false
+is_refusal other = true
+
+-- nothing went out
+abbrev pub IsSilent : Status → Output → Output → Type 0
+IsSilent ending old new = (is_refusal ending ≡ true) × (new ≡ old)
+
+-- A request was carried out: an outcome that is true of what its files hold was printed, or nothing
+-- went out.
+abbrev pub Carries : (List ℕ → List ℕ → Type 0) → Request → Status → Output → Output → Type 0
+Carries holds request ending old new = PrintsTrue holds request ending old new ⊎ IsSilent ending old new
+
+-- how the program ends with a fault of files and streams
+abbrev pub fault_status : Fault → Status
+fault_status fault.OutOfMemory = status.Device
+fault_status (fault.Conflict option) = status.BadCommand
+fault_status (fault.OneFile out file) = status.BadCommand
+fault_status (fault.Unread name) = status.Device
+fault_status (fault.Unwritten name) = status.Device
