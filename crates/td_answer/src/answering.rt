@@ -1,8 +1,15 @@
 //! The outcome of a request.
 
+use crate::bound::bounds;
 use crate::check::verdict_on;
+use crate::each::table;
+use crate::info::info;
+use crate::join::join;
 use crate::outcome::Outcome;
+use crate::parts::parts;
+use crate::path::path;
 use crate::refusal::Refusal;
+use crate::sim::sim;
 use crate::texts::Texts;
 use crate::worst::worst;
 use std::alloc::Global;
@@ -43,7 +50,13 @@ pub fn answer_plain<'n, 'w, 'c>(
     let reading = &request.reading;
     match &request.command {
         Command::Check(asked) => checked(alloc, text, reading, asked, texts.certificates),
-        _ => unreachable!(),
+        Command::Sim(asked) => sim(alloc, text, reading, asked),
+        Command::Path(asked) => path(alloc, text, reading, asked),
+        Command::Bound(asked) => bounds(alloc, text, reading, asked),
+        Command::Parts(asked) => parts(alloc, text, reading, asked),
+        Command::Join(asked) => join(alloc, text, reading, asked, texts.certificates),
+        Command::Info => info(alloc, text, reading),
+        Command::Worst(_) => unreachable!(),
     }
 }
 
@@ -55,6 +68,9 @@ fn searched<'n, 'w, W: Watch, R: Threads + Wait + Clock + Sync>(
     search: &Search<'w>,
     watch: &mut W,
 ) -> Result<Outcome, Refusal<'n, 'w>> {
+    if search.each {
+        return table(rt, alloc, text, reading, search);
+    }
     worst(rt, alloc, text, reading, search, watch)
 }
 

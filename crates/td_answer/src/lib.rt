@@ -8,16 +8,24 @@
 mod answering;
 mod answers;
 mod beside;
+mod bound;
 mod certifying;
 mod check;
 mod claims;
+mod each;
+mod gathering;
 mod head;
+mod info;
+mod join;
 mod names;
 mod outcome;
+mod parts;
+mod path;
 mod pins;
 mod refusal;
 mod runs;
 mod sentence;
+mod sim;
 mod status;
 #[cfg(test)]
 mod tests;
