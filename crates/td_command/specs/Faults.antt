@@ -21,6 +21,6 @@ HasFault words error = HasKind (kinds_of (plain_of words)) error ⊎ HasKind (ki
 abbrev pub IsShown : ErrorKind → Type 0
 IsShown reported = (reported ≡ kind.DisplayHelp) ⊎ (reported ≡ kind.DisplayVersion)
 
--- the words ask for help or the version
-abbrev pub AskForHelp : Words → Type 0
-AskForHelp words = (reported : ErrorKind) × IsShown reported × (IsAmong reported (kinds_of (plain_of words)) ⊎ IsAmong reported (kinds_of (all_of words)))
+-- the parser has a text of this kind to report of the words
+abbrev pub IsReported : Words → ErrorKind → Type 0
+IsReported words reported = IsAmong reported (kinds_of (plain_of words)) ⊎ IsAmong reported (kinds_of (all_of words))

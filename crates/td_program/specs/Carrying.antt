@@ -1,5 +1,6 @@
 -- What a request does to standard output.
-use Rattle.std.specs.Prelude.{◌≡◌, ◌≢◌, ◌⊎◌, ℕ, List, [], ◌∷◌, codes, Bool, true, false, ◌||◌, Option, Some, None, map}
+use Rattle.std.specs.Prelude.{◌≡◌, ◌⊎◌, ℕ, List, [], ◌∷◌, codes, Bool, true, false, ◌||◌, take, Option, Some, None}
+use Rattle.std.specs.List.{AllZip}
 use Rattle.std.specs.Borrow.{Bor}
 use Rattle.std.specs.Global.{Vec}
 use Rattle.std.specs.Str.{bytes_eq}
@@ -59,23 +60,21 @@ certificate_names (command.Join asked) = asked.parts
 certificate_names other = []
 
 -- the files of the first of these names hold these texts, one for each
-abbrev pub AreHeld : (List ℕ → List ℕ → Type 0) → List (List ℕ) → List (List ℕ) → Type 0
-AreHeld holds names [] = Unit {0}
-AreHeld holds [] (text ∷ texts) = ⊥
-AreHeld holds (name ∷ names) (text ∷ texts) = holds name text × AreHeld holds names texts
+abbrev pub AreHeld : (List ℕ → List ℕ → Type 0) → List (List ℕ) → List (Vec ℕ) → Type 0
+AreHeld holds names texts = (count : ℕ) × AllZip (λ name (text : Vec ℕ). holds name text.items) (take count names) texts
 
 -- the texts of the files that a request names; of certificates there may be fewer
-pub record Holds (holds : List ℕ → List ℕ → Type 0) (request : Request) (netlist : List ℕ) (certificates : List (List ℕ)) : Type 0 where
+pub record Holds (holds : List ℕ → List ℕ → Type 0) (request : Request) (netlist : List ℕ) (certificates : List (Vec ℕ)) : Type 0 where
   pub file : holds request.file.now netlist
   pub others : AreHeld holds (certificate_names request.command) certificates
 
 -- an outcome that is true of what the files hold was printed
 pub record PrintsTrue (holds : List ℕ → List ℕ → Type 0) (request : Request) (ending : Status) (old new : Output) : Type 0 where
   pub netlist : List ℕ
-  pub certificates : List (List ℕ)
+  pub certificates : List (Vec ℕ)
   pub held : Holds holds request netlist certificates
   pub outcome : Outcome
-  pub is_true : SaysTrue request netlist certificates outcome
+  pub is_true : SaysTrue request.command netlist request.reading certificates outcome
   pub prints : Prints request outcome ending old new
 
 -- how the program ends where there is no outcome

@@ -1,5 +1,8 @@
 //! The bytes of the files that a request names.
 
+ghost use Rattle.std.specs.Prelude.{◌≡◌, ◌∷◌, [], map, IfOk};
+ghost use Rattle.td_program.specs.Carrying.{AreHeld, Holds, certificate_names};
+
 use crate::conflict::conflict_of;
 use crate::fault::{Fault, unread};
 use crate::outputs::overwriting;
@@ -17,7 +20,10 @@ pub(crate) struct Bytes {
 
 impl Bytes {
     /// The texts of the files.
-    pub(crate) fn texts(&self) -> Texts<'_, '_> {
+    pub(crate) fn texts(&self) -> Texts<'_, '_>
+        ensures netlist { result.netlist.now ≡ self.now.netlist.items }
+        ensures certificates { result.certificates.now ≡ self.now.certificates.items }
+    {
         Texts {
             netlist: &self.netlist,
             certificates: &self.certificates,
@@ -30,7 +36,10 @@ fn bytes_of<'w, F: Files>(
     alloc: Global,
     name: &'w str,
     files: &mut F,
-) -> Result<Vec<u8>, Fault<'w>> {
+) -> Result<Vec<u8>, Fault<'w>>
+    ensures held { IfOk result (λ bytes. (F.disk files.old).holds name.now bytes.items) }
+    ensures stays { files.new ≡ files.old }
+{
     match files.read(alloc, name) {
         Ok(bytes) => Ok(bytes),
         Err(fault) => Err(unread(name, fault)),
@@ -42,7 +51,10 @@ fn bytes_of_one<'w, F: Files>(
     alloc: Global,
     name: &'w str,
     files: &mut F,
-) -> Result<Vec<Vec<u8>>, Fault<'w>> {
+) -> Result<Vec<Vec<u8>>, Fault<'w>>
+    ensures held { IfOk result (λ all. AreHeld (F.disk files.old).holds (name.now ∷ []) all.items) }
+    ensures stays { files.new ≡ files.old }
+{
     let bytes = bytes_of(alloc, name, files)?;
     let mut all = Vec::new(alloc);
     all.push(bytes)?;
@@ -55,7 +67,10 @@ fn bytes_of_parts<'w, F: Files>(
     alloc: Global,
     names: &[&'w str],
     files: &mut F,
-) -> Result<Vec<Vec<u8>>, Fault<'w>> {
+) -> Result<Vec<Vec<u8>>, Fault<'w>>
+    ensures held { IfOk result (λ all. AreHeld (F.disk files.old).holds (map (λ name. name.now) names.now) all.items) }
+    ensures stays { files.new ≡ files.old }
+{
     let mut all = Vec::new(alloc);
     for name in names {
         match files.read(alloc, name) {
@@ -72,7 +87,10 @@ fn certificates_of<'w, F: Files>(
     alloc: Global,
     command: &Command<'w>,
     files: &mut F,
-) -> Result<Vec<Vec<u8>>, Fault<'w>> {
+) -> Result<Vec<Vec<u8>>, Fault<'w>>
+    ensures held { IfOk result (λ all. AreHeld (F.disk files.old).holds (certificate_names command.now) all.items) }
+    ensures stays { files.new ≡ files.old }
+{
     match command {
         Command::Check(check) => bytes_of_one(alloc, check.certificate, files),
         Command::Join(join) => bytes_of_parts(alloc, join.parts.names(), files),
@@ -85,7 +103,9 @@ fn read<'w, F: Files>(
     alloc: Global,
     request: &Request<'w>,
     files: &mut F,
-) -> Result<Bytes, Fault<'w>> {
+) -> Result<Bytes, Fault<'w>>
+    ensures { IfOk result (λ bytes. Holds (F.disk files.old).holds request.now bytes.netlist.items bytes.certificates.items) }
+{
     let netlist = bytes_of(alloc, request.file, files)?;
     let certificates = certificates_of(alloc, &request.command, files)?;
     Ok(Bytes {
@@ -100,7 +120,9 @@ pub(crate) fn bytes_for<'w, F: Files>(
     alloc: Global,
     request: &Request<'w>,
     files: &mut F,
-) -> Result<Bytes, Fault<'w>> {
+) -> Result<Bytes, Fault<'w>>
+    ensures { IfOk result (λ bytes. Holds (F.disk files.old).holds request.now bytes.netlist.items bytes.certificates.items) }
+{
     if let Some(conflict) = conflict_of(request) {
         return Err(Fault::Conflict(conflict));
     }

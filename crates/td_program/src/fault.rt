@@ -1,5 +1,9 @@
 //! Why a request isn't carried out to its end, by its files and streams.
 
+ghost use Rattle.std.specs.Prelude.{◌≡◌};
+ghost use Rattle.td_answer.specs.declared.status.Status.TheVariants as ending;
+ghost use Rattle.td_program.specs.Carrying.{fault_status};
+
 use std::alloc::{AllocError, AllocFailed};
 use td_answer::Status;
 use td_certificate::WriteFault;
@@ -44,7 +48,9 @@ impl<'w, T: Drop> From<AllocFailed<T>> for Fault<'w> {
 }
 
 /// The fault of a file of this name that can't be read.
-pub(crate) fn unread<'w>(name: &'w str, fault: ReadFault) -> Fault<'w> {
+pub(crate) fn unread<'w>(name: &'w str, fault: ReadFault) -> Fault<'w>
+    ensures { fault_status result ≡ ending.Device }
+{
     match fault {
         ReadFault::OutOfMemory => Fault::OutOfMemory,
         ReadFault::Device => Fault::Unread(name),
@@ -52,7 +58,9 @@ pub(crate) fn unread<'w>(name: &'w str, fault: ReadFault) -> Fault<'w> {
 }
 
 /// The fault of a file of this name that can't be written.
-pub(crate) fn unwritten<'w>(name: &'w str, fault: WriteFault) -> Fault<'w> {
+pub(crate) fn unwritten<'w>(name: &'w str, fault: WriteFault) -> Fault<'w>
+    ensures { fault_status result ≡ ending.Device }
+{
     match fault {
         WriteFault::OutOfMemory => Fault::OutOfMemory,
         WriteFault::Device => Fault::Unwritten(name),
@@ -61,7 +69,9 @@ pub(crate) fn unwritten<'w>(name: &'w str, fault: WriteFault) -> Fault<'w> {
 
 impl<'w> Fault<'w> {
     /// How the program ends with it.
-    pub(crate) fn status(&self) -> Status {
+    pub(crate) fn status(&self) -> Status
+        ensures { result ≡ fault_status self.now }
+    {
         match self {
             Fault::OutOfMemory | Fault::Unread(_) | Fault::Unwritten(_) => Status::Device,
             Fault::Conflict(_) | Fault::OneFile(..) => Status::BadCommand,

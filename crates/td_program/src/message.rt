@@ -1,5 +1,9 @@
 //! Lines on standard error.
 
+ghost use Rattle.std.specs.Prelude.{◌≡◌, ◌⊎◌, true};
+ghost use Rattle.td_answer.specs.declared.status.Status.TheVariants as ending;
+ghost use Rattle.td_program.specs.Carrying.{is_refusal, fault_status};
+
 use crate::fault::Fault;
 use std::alloc::{AllocError, Global};
 use td_answer::{Refusal, Status};
@@ -12,7 +16,9 @@ pub(crate) fn tell<E: Sink>(err: &mut E, bytes: &[u8]) {
 }
 
 /// Says a sentence, or that memory ran out where there is none. Answers how the program ends.
-fn say<E: Sink>(sentence: Result<Text, AllocError>, status: Status, err: &mut E) -> Status {
+fn say<E: Sink>(sentence: Result<Text, AllocError>, status: Status, err: &mut E) -> Status
+    ensures { (result ≡ status) ⊎ (result ≡ ending.Device) }
+{
     match sentence {
         Ok(text) => {
             tell(err, text.bytes());
@@ -38,7 +44,10 @@ fn refusal_sentence(alloc: Global, refusal: &Refusal<'_, '_>) -> Result<Text, Al
 }
 
 /// Says what a fault is. Answers how the program ends.
-pub(crate) fn tell_fault<E: Sink>(alloc: Global, fault: Fault<'_>, err: &mut E) -> Status {
+pub(crate) fn tell_fault<E: Sink>(alloc: Global, fault: Fault<'_>, err: &mut E) -> Status
+    ensures refusal { is_refusal result ≡ true }
+    ensures device { fault_status fault.entry ≡ ending.Device → result ≡ ending.Device }
+{
     say(fault_sentence(alloc, fault), fault.status(), err)
 }
 
@@ -47,6 +56,8 @@ pub(crate) fn tell_refusal<E: Sink>(
     alloc: Global,
     refusal: &Refusal<'_, '_>,
     err: &mut E,
-) -> Status {
+) -> Status
+    ensures { is_refusal result ≡ true }
+{
     say(refusal_sentence(alloc, refusal), refusal.status(), err)
 }

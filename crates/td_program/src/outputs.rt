@@ -1,5 +1,8 @@
 //! The files that a request writes.
 
+ghost use Rattle.std.specs.Prelude.{◌≡◌};
+ghost use Rattle.td_program.specs.Carrying.{outputs_of};
+
 use crate::fault::Fault;
 use td_files::Files;
 use td_request::{Command, Request};
@@ -12,13 +15,20 @@ pub(crate) struct Outputs<'w> {
 }
 
 /// The names of the files that a request writes.
-pub(crate) fn outputs_of<'w>(request: &Request<'w>) -> Outputs<'w> {
-    let (certificate, dump) = match &request.command {
-        Command::Worst(search) => (search.certificate, search.dump),
-        Command::Sim(sim) => (None, sim.dump),
-        Command::Join(join) => (join.certificate, None),
-        _ => (None, None),
-    };
+pub(crate) fn outputs_of<'w>(request: &Request<'w>) -> Outputs<'w>
+    ensures { result ≡ outputs_of request.now.command }
+{
+    match &request.command {
+        Command::Worst(search) => outputs(search.certificate, search.dump),
+        Command::Sim(sim) => outputs(None, sim.dump),
+        Command::Join(join) => outputs(join.certificate, None),
+        _ => outputs(None, None),
+    }
+}
+
+fn outputs<'w>(certificate: Option<&'w str>, dump: Option<&'w str>) -> Outputs<'w>
+    ensures { result ≡ record { certificate = certificate.entry; dump = dump.entry } }
+{
     Outputs { certificate, dump }
 }
 
@@ -27,7 +37,9 @@ pub(crate) fn outputs_of<'w>(request: &Request<'w>) -> Outputs<'w> {
 pub(crate) fn overwriting<'w, F: Files>(
     files: &mut F,
     request: &Request<'w>,
-) -> Option<Fault<'w>> {
+) -> Option<Fault<'w>>
+    ensures { files.new ≡ files.old }
+{
     let outputs = outputs_of(request);
     if let Some(fault) = over_read(files, outputs.certificate, request.file) {
         return Some(fault);
@@ -46,7 +58,9 @@ fn over_one_of<'w, F: Files>(
     files: &mut F,
     out: Option<&'w str>,
     names: &[&'w str],
-) -> Option<Fault<'w>> {
+) -> Option<Fault<'w>>
+    ensures { files.new ≡ files.old }
+{
     for name in names {
         if let Some(fault) = over_read(files, out, name) {
             return Some(fault);
@@ -60,7 +74,9 @@ fn over_read<'w, F: Files>(
     files: &mut F,
     out: Option<&'w str>,
     file: &'w str,
-) -> Option<Fault<'w>> {
+) -> Option<Fault<'w>>
+    ensures { files.new ≡ files.old }
+{
     over(files, out, Some(read_as(file)))
 }
 
@@ -74,7 +90,9 @@ fn over<'w, F: Files>(
     files: &mut F,
     out: Option<&'w str>,
     file: Option<&'w str>,
-) -> Option<Fault<'w>> {
+) -> Option<Fault<'w>>
+    ensures { files.new ≡ files.old }
+{
     let (Some(out), Some(file)) = (out, file) else {
         return None;
     };

@@ -1,5 +1,14 @@
 //! The program.
 
+ghost use Rattle.std.specs.Prelude.{◌≡◌, ◌⊎◌, true, map, IfOk, IfErr, IfSome, IfNone, OnOk, OnErr};
+ghost use Rattle.td_command.specs.Parting.{AreParted};
+ghost use Rattle.td_command.specs.Saying.{AskFor};
+ghost use Rattle.td_answer.specs.Outcomes.{IsPlain};
+ghost use Rattle.td_answer.specs.Writing.{CanBeWritten};
+ghost use Rattle.td_answer.specs.declared.status.Status.TheVariants as ending;
+ghost use Rattle.td_program.specs.Carrying.{Carries, Prints, IsSilent, is_refusal, fault_status};
+ghost use Rattle.td_program.specs.Ends.{Ends, Shows};
+
 use crate::advice::{Advice, NoAdvice, System};
 use crate::bytes::bytes_for;
 use crate::delivery::deliver;
@@ -38,7 +47,9 @@ pub fn program<
     out: &mut O,
     err: &mut E,
     terminal: bool,
-) -> Status {
+) -> Status
+    ensures { Ends (F.disk files.old).holds (map S.text words.now) result (O.output out.old) (O.output out.new) }
+{
     let words = match words_of(alloc, words, err) {
         Ok(words) => words,
         Err(status) => return status,
@@ -60,7 +71,9 @@ pub fn run<R: Threads + Wait + Clock + Sync, S: AsStr, F: Files, O: Sink, E: Sin
     files: &mut F,
     out: &mut O,
     err: &mut E,
-) -> Status {
+) -> Status
+    ensures { Ends (F.disk files.old).holds (map S.text words.now) result (O.output out.old) (O.output out.new) }
+{
     let words = match words_of(alloc, words, err) {
         Ok(words) => words,
         Err(status) => return status,
@@ -79,7 +92,10 @@ pub fn run_plain<S: AsStr, F: Files, O: Sink, E: Sink>(
     files: &mut F,
     out: &mut O,
     err: &mut E,
-) -> Option<Status> {
+) -> Option<Status>
+    ensures ends { IfSome result (λ status. Ends (F.disk files.old).holds (map S.text words.now) status (O.output out.old) (O.output out.new)) }
+    ensures untouched { IfNone result ((files.new ≡ files.old) × (out.new ≡ out.old) × (err.new ≡ err.old)) }
+{
     let words = match words_of(alloc, words, err) {
         Ok(words) => words,
         Err(status) => return Some(status),
@@ -95,7 +111,9 @@ pub fn run_plain<S: AsStr, F: Files, O: Sink, E: Sink>(
 
 /// Says on `err` that the words of the command line can't be read: memory ran out, or a device
 /// failed, as where a word isn't text in UTF-8.
-pub fn refuse_words<E: Sink>(fault: ReadFault, err: &mut E) -> Status {
+pub fn refuse_words<E: Sink>(fault: ReadFault, err: &mut E) -> Status
+    ensures { is_refusal result ≡ true }
+{
     match fault {
         ReadFault::OutOfMemory => {
             tell(err, b"tdelay: out of memory\n");
@@ -113,7 +131,11 @@ fn words_of<'w, S: AsStr, E: Sink>(
     alloc: Global,
     words: &'w [S],
     err: &mut E,
-) -> Result<Words<'w>, Status> {
+) -> Result<Words<'w>, Status>
+    ensures parted { IfOk result (AreParted (map S.text words.entry.now)) }
+    ensures untouched { OnOk result (err.new ≡ err.old) }
+    ensures refusal { IfErr result (λ status. is_refusal status ≡ true) }
+{
     match Words::new(alloc, words) {
         Ok(words) => Ok(words),
         Err(_) => Err(tell_fault(alloc, Fault::OutOfMemory, err)),
@@ -127,7 +149,11 @@ fn request_of<'w, O: Sink, E: Sink>(
     words: &'w Words<'w>,
     out: &mut O,
     err: &mut E,
-) -> Result<Request<'w>, Status> {
+) -> Result<Request<'w>, Status>
+    ensures asked { IfOk result (AskFor words.entry.now) }
+    ensures untouched { OnOk result ((out.new ≡ out.old) × (err.new ≡ err.old)) }
+    ensures ends { IfErr result (λ status. Shows words.entry.now status (O.output out.old) (O.output out.new) ⊎ IsSilent status (O.output out.old) (O.output out.new)) }
+{
     match asked(alloc, words) {
         Ok(Some(request)) => Ok(request),
         Ok(None) => Err(refuse_words(ReadFault::Device, err)),
@@ -145,7 +171,9 @@ pub fn carry_out<R: Threads + Wait + Clock + Sync, F: Files, O: Sink, E: Sink, A
     out: &mut O,
     err: &mut E,
     advice: &A,
-) -> Status {
+) -> Status
+    ensures { Carries (F.disk files.old).holds request.now result (O.output out.old) (O.output out.new) }
+{
     let bytes = match bytes_for(alloc, request, files) {
         Ok(bytes) => bytes,
         Err(fault) => return stop(alloc, request, fault, err, advice),
@@ -176,7 +204,10 @@ fn carry_out_plain<F: Files, O: Sink, E: Sink>(
     files: &mut F,
     out: &mut O,
     err: &mut E,
-) -> Status {
+) -> Status
+    requires { IsPlain request.now.command }
+    ensures { Carries (F.disk files.old).holds request.now result (O.output out.old) (O.output out.new) }
+{
     let bytes = match bytes_for(alloc, request, files) {
         Ok(bytes) => bytes,
         Err(fault) => return tell_fault(alloc, fault, err),
@@ -197,7 +228,10 @@ fn finish<F: Files, O: Sink, E: Sink, A: Advice>(
     out: &mut O,
     err: &mut E,
     advice: &A,
-) -> Status {
+) -> Status
+    requires { CanBeWritten outcome.now }
+    ensures { Prints request.now outcome.now result (O.output out.old) (O.output out.new) }
+{
     match deliver(alloc, request, outcome, files, out) {
         Ok(()) => {
             if advice.is_wanted(request.hints) {
@@ -216,7 +250,10 @@ fn stop<E: Sink, A: Advice>(
     fault: Fault<'_>,
     err: &mut E,
     advice: &A,
-) -> Status {
+) -> Status
+    ensures refusal { is_refusal result ≡ true }
+    ensures device { fault_status fault.entry ≡ ending.Device → result ≡ ending.Device }
+{
     let status = tell_fault(alloc, fault, err);
     if advice.is_wanted(request.hints) {
         advise(fault_hint(alloc, fault, advice), err);
@@ -232,7 +269,9 @@ fn refuse<E: Sink, A: Advice>(
     refusal: &Refusal<'_, '_>,
     err: &mut E,
     advice: &A,
-) -> Status {
+) -> Status
+    ensures { is_refusal result ≡ true }
+{
     if let Refusal::Unread(name) = refusal {
         return stop(alloc, request, Fault::Unread(name), err, advice);
     }

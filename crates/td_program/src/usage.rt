@@ -1,5 +1,11 @@
 //! Faults of the words of a command line, and help.
 
+ghost use Rattle.std.specs.Prelude.{◌⊎◌};
+ghost use Rattle.clap.specs.Words.{kind_of};
+ghost use Rattle.td_command.specs.Faults.{IsShown};
+ghost use Rattle.td_program.specs.Carrying.{IsSilent};
+ghost use Rattle.td_program.specs.Ends.{ShowsText};
+
 use crate::fault::Fault;
 use crate::message::{tell, tell_fault};
 use crate::print::write;
@@ -17,7 +23,16 @@ fn text_of(alloc: Global, error: &Error) -> Result<String, AllocError> {
     format!(in alloc; "{error}")
 }
 
-fn show_help<O: Sink, E: Sink>(alloc: Global, help: &str, out: &mut O, err: &mut E) -> Status {
+fn show_help<O: Sink, E: Sink>(
+    alloc: Global,
+    error: &Error,
+    help: &str,
+    out: &mut O,
+    err: &mut E,
+) -> Status
+    requires { IsShown (kind_of error.now) }
+    ensures { ShowsText (kind_of error.now) result (O.output out.old) (O.output out.new) }
+{
     match write(help.as_bytes(), out) {
         Ok(()) => Status::Done,
         Err(fault) => tell_fault(alloc, fault, err),
@@ -31,7 +46,9 @@ pub(crate) fn tell_usage<O: Sink, E: Sink>(
     error: &Error,
     out: &mut O,
     err: &mut E,
-) -> Status {
+) -> Status
+    ensures { ShowsText (kind_of error.now) result (O.output out.old) (O.output out.new) ⊎ IsSilent result (O.output out.old) (O.output out.new) }
+{
     let text = match text_of(alloc, error) {
         Ok(text) => text,
         Err(_) => return tell_fault(alloc, Fault::OutOfMemory, err),
@@ -40,5 +57,5 @@ pub(crate) fn tell_usage<O: Sink, E: Sink>(
         tell(err, text.as_bytes());
         return Status::BadCommand;
     }
-    show_help(alloc, &text, out, err)
+    show_help(alloc, error, &text, out, err)
 }
