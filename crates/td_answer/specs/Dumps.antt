@@ -1,5 +1,5 @@
 -- The waves that a request asks for.
-use Rattle.std.specs.Prelude.{◌≡◌, ℕ, List, Option, Some, None}
+use Rattle.std.specs.Prelude.{◌≡◌, Bool, true, false, Option, Some, None}
 use Rattle.td_gates.specs.Wave.{Wave}
 use Rattle.td_nets.specs.Netlist.{Net}
 use Rattle.td_circuit.specs.Settings.{Setting}
@@ -18,8 +18,8 @@ pub record IsDump (asked : Setting) (IsRun : (Net → Wave) → Type 0) (dump : 
   pub runs : IsRun (waves_of dump)
   pub has : IsRunFor dump.circuit dump.run
 
--- there is one just where a file is named for it
-abbrev pub IsDumpFor : {A : Type 0} → Option A → Setting → ((Net → Wave) → Type 0) → Option Waves → Type 0
-IsDumpFor None asked IsRun dump = dump ≡ None
-IsDumpFor (Some name) asked IsRun None = ⊥
-IsDumpFor (Some name) asked IsRun (Some dump) = IsDump asked IsRun dump
+-- there is one just where it is asked for
+abbrev pub IsDumpWhere : Bool → Setting → ((Net → Wave) → Type 0) → Option Waves → Type 0
+IsDumpWhere false asked IsRun dump = dump ≡ None
+IsDumpWhere true asked IsRun None = ⊥
+IsDumpWhere true asked IsRun (Some dump) = IsDump asked IsRun dump

@@ -1,6 +1,5 @@
 -- What is true of the outcome of a search: the sentence at the top.
-use Rattle.std.specs.Prelude.{◌≡◌, ◌≤◌, ℕ, List, ◌∷◌, ◌++◌, Option, Some, None}
-use Rattle.std.specs.List.{Contains}
+use Rattle.std.specs.Prelude.{◌≡◌, ◌≤◌, ℕ, List, ◌∷◌, ◌++◌, is_some}
 use Rattle.td_circuit.specs.Settings.{Setting}
 use Rattle.td_circuit.specs.Run.{IsDelayOfBits}
 use Rattle.td_domain.specs.Pairs.{Pair}
@@ -15,7 +14,7 @@ use Rattle.td_lines.specs.declared.line.Line.{Line}
 use Rattle.td_lines.specs.declared.line.Line.TheVariants as line
 use Rattle.td_answer.specs.Heads.{head_lines}
 use Rattle.td_answer.specs.Runs.{TellsPair, RunsPair}
-use Rattle.td_answer.specs.Dumps.{IsDumpFor}
+use Rattle.td_answer.specs.Dumps.{IsDumpWhere}
 use Rattle.td_answer.specs.declared.outcome.Outcome.{Outcome}
 use Rattle.td_answer.specs.declared.status.Status.{Status}
 use Rattle.td_answer.specs.declared.status.Status.TheVariants as status
@@ -74,4 +73,4 @@ pub record IsTrueWorst (text : List ℕ) (reading : Reading) (search : Search) (
   pub lines : List Line
   pub is : outcome.report ≡ head_lines setting.netlist ++ lines
   pub figure : HasFigure setting admit search.shown pair lines outcome.status
-  pub dumped : IsDumpFor search.dump setting (RunsPair setting pair) outcome.dump
+  pub dumped : IsDumpWhere (is_some search.dump) setting (RunsPair setting pair) outcome.dump

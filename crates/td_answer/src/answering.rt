@@ -1,5 +1,10 @@
 //! The outcome of a request.
 
+ghost use Rattle.std.specs.Prelude.{◌≡◌, ◌⊎◌, IfOk, IfErr, None as Nothing};
+ghost use Rattle.td_search.specs.Problems.{Problem};
+ghost use Rattle.td_question.specs.Asking.{IsAsked};
+ghost use Rattle.td_answer.specs.Outcomes.{IsPlain, IsCheckedTrue, IsRefusedChecked, IsSearchedTrue, IsCertifiedSearch, IsRefusedSearched, IsSearched, IsTrueOutcome, HasCertificate, IsRefused};
+
 use crate::bound::bounds;
 use crate::check::verdict_on;
 use crate::each::table;
@@ -31,7 +36,14 @@ pub fn answer<'n, 'w, 'c, W: Watch, R: Threads + Wait + Clock + Sync>(
     request: &Request<'w>,
     texts: &Texts<'n, 'c>,
     watch: &mut W,
-) -> Result<Outcome, Refusal<'n, 'w>> {
+) -> Result<Outcome, Refusal<'n, 'w>>
+    ensures says { IfOk result (IsTrueOutcome request.now texts.now) }
+    ensures certified { IfOk result (HasCertificate request.now texts.now) }
+    ensures refusal { IfErr result (IsRefused request.now texts.now) }
+    // The progress that the watch got, if any, is true of what is asked.
+    ensures reported { (watch.new ≡ watch.old)
+        ⊎ ((asked : Problem) × IsSearched request.now.command texts.now.netlist.now request.now.reading asked × W.reported asked watch.old watch.new) }
+{
     match &request.command {
         Command::Worst(search) => {
             searched(rt, alloc, texts.netlist, &request.reading, search, watch)
@@ -45,7 +57,12 @@ pub fn answer_plain<'n, 'w, 'c>(
     alloc: Global,
     request: &Request<'w>,
     texts: &Texts<'n, 'c>,
-) -> Result<Outcome, Refusal<'n, 'w>> {
+) -> Result<Outcome, Refusal<'n, 'w>>
+    requires { IsPlain request.now.command }
+    ensures says { IfOk result (IsTrueOutcome request.now texts.now) }
+    ensures certified { IfOk result (HasCertificate request.now texts.now) }
+    ensures refusal { IfErr result (IsRefused request.now texts.now) }
+{
     let text = texts.netlist;
     let reading = &request.reading;
     match &request.command {
@@ -67,7 +84,13 @@ fn searched<'n, 'w, W: Watch, R: Threads + Wait + Clock + Sync>(
     reading: &Reading<'_>,
     search: &Search<'w>,
     watch: &mut W,
-) -> Result<Outcome, Refusal<'n, 'w>> {
+) -> Result<Outcome, Refusal<'n, 'w>>
+    ensures says { IfOk result (IsSearchedTrue search.now.each text.now reading.now search.now) }
+    ensures certified { IfOk result (IsCertifiedSearch search.now.each text.now reading.now search.now) }
+    ensures refusal { IfErr result (IsRefusedSearched search.now.each text.now reading.now search.now) }
+    ensures reported { (watch.new ≡ watch.old)
+        ⊎ ((asked : Problem) × IsAsked text.now reading.now search.now.question asked.setting asked.admit × W.reported asked watch.old watch.new) }
+{
     if search.each {
         return table(rt, alloc, text, reading, search);
     }
@@ -81,7 +104,11 @@ fn checked<'n, 'w>(
     reading: &Reading<'_>,
     asked: &Check<'w>,
     certificates: &[Vec<u8>],
-) -> Result<Outcome, Refusal<'n, 'w>> {
+) -> Result<Outcome, Refusal<'n, 'w>>
+    ensures says { IfOk result (IsCheckedTrue text.now reading.now certificates.now) }
+    ensures certified { IfOk result (λ outcome. outcome.certificate ≡ Nothing) }
+    ensures refusal { IfErr result (IsRefusedChecked text.now reading.now asked.now certificates.now) }
+{
     match certificates.first() {
         Some(certificate) => verdict_on(alloc, text, reading, certificate),
         None => Err(Refusal::Unread(asked.certificate)),

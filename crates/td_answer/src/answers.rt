@@ -1,8 +1,8 @@
 //! What a report says of the answer of a search.
 
 ghost use Rattle.std.specs.Prelude.{◌≡◌, ◌++◌, length, IfOk, OnOk};
-//ghost use Rattle.td_answer.specs.Heads.{head_lines};
-//ghost use Rattle.td_answer.specs.Lines.{cause_line, exact_lines, between_lines, answer_lines, ending_of, pair_in};
+ghost use Rattle.td_answer.specs.Heads.{head_lines};
+ghost use Rattle.td_answer.specs.Lines.{cause_line, exact_lines, between_lines, answer_lines, ending_of, pair_in};
 
 use crate::head::begun;
 use crate::status::Status;

@@ -4,7 +4,7 @@ ghost use Rattle.std.specs.Prelude.{◌≡◌, ◌≤◌, ◌∷◌, [], length,
 ghost use Rattle.td_search.specs.Problems.{problem_by};
 ghost use Rattle.td_certificate.specs.Lengths.{CanTell};
 ghost use Rattle.td_certificate.specs.Spelling.{AreOutputs};
-//ghost use Rattle.td_answer.specs.Certificates.{tells_terms, terms_in, certificate_in, CanBeTold};
+ghost use Rattle.td_answer.specs.Certificates.{tells_terms, terms_in, certificate_in, CanBeTold};
 
 use std::alloc::{AllocError, Global};
 use td_certificate::{Certificate, Question, Terms, Tree};

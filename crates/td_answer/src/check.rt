@@ -1,7 +1,7 @@
 //! The verdict on a certificate.
 
 ghost use Rattle.std.specs.Prelude.{◌≡◌, IfOk, IfErr, None as Nothing};
-//ghost use Rattle.td_answer.specs.Verdicts.{refused_lines, verdict_lines, ending_by, IsTrueCheck, IsRefusedCheck};
+ghost use Rattle.td_answer.specs.Verdicts.{AreRefusedLines, AreVerdictLines, ending_by, IsTrueCheck, IsRefusedCheck};
 
 use crate::claims::accepted;
 use crate::outcome::Outcome;
@@ -15,7 +15,7 @@ use td_reading::Reading;
 
 /// The report of a certificate that is refused.
 fn refused(alloc: Global, verdict: Verdict) -> Result<Report, AllocError>
-    ensures { IfOk result (λ report. report ≡ refused_lines verdict) }
+    ensures { IfOk result (AreRefusedLines verdict) }
 {
     let mut report = Report::new(alloc);
     report.add(Line::Refused {
@@ -31,7 +31,7 @@ fn report_of(
     verdict: Verdict,
     certificate: &Certificate,
 ) -> Result<Report, AllocError>
-    ensures { IfOk result (λ report. report ≡ verdict_lines certificate.now verdict) }
+    ensures { IfOk result (AreVerdictLines certificate.now verdict) }
 {
     match verdict {
         Verdict::Accepted => accepted(alloc, certificate),

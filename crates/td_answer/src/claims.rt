@@ -1,8 +1,8 @@
 //! What a report says of a certificate that is accepted.
 
 ghost use Rattle.std.specs.Prelude.{◌≡◌, ◌++◌, IfOk, OnOk};
-ghost use Rattle.td_certificate.specs.Questions.{version_of};
-//ghost use Rattle.td_answer.specs.Claims.{accepted_line, pins_lines, terms_lines, output_number, question_lines, moments_lines, fourth_lines, claim_lines};
+ghost use Rattle.std.specs.Prelude.{option_map};
+ghost use Rattle.td_answer.specs.Claims.{accepted_line, pins_lines, terms_lines, output_number, question_lines, moments_lines, fourth_lines, claim_lines};
 
 use crate::pins::{marks, trits};
 use std::alloc::{AllocError, Global};
@@ -47,7 +47,9 @@ fn output_number(terms: &Terms) -> Option<u64>
 }
 
 /// Appends how the netlist is read, where that is told.
-fn push_terms(report: &mut Report, terms: Option<&Terms>) -> Result<(), AllocError> {
+fn push_terms(report: &mut Report, terms: Option<&Terms>) -> Result<(), AllocError>
+    ensures { OnOk result (report.new ≡ report.old ++ terms_lines (option_map (λ terms. terms.now) terms)) }
+{
     let Some(terms) = terms else {
         return Ok(());
     };

@@ -1,5 +1,14 @@
 //! The worst delay of each output by itself, as a table.
 
+ghost use Rattle.std.specs.Prelude.{◌≡◌, ◌*◌, length, map, IfOk, IfErr, OnOk, None as Nothing};
+ghost use Rattle.td_circuit.specs.Numbering.{setting};
+ghost use Rattle.td_certificate.specs.declared.tree.BoundedBy.TheVariants as by;
+ghost use Rattle.td_answer.specs.Names.{label};
+ghost use Rattle.td_answer.specs.Additions.{AddsLines};
+ghost use Rattle.td_answer.specs.Bounds.{IsSoundBound};
+ghost use Rattle.td_answer.specs.Searches.{IsRefusedSearch};
+ghost use Rattle.td_answer.specs.Tables.{found_of, is_exact, table_ending, IsOutline, AreTrueFigures, IsTrueRow, AreRows, HasRows, RowFails, HasNoRow, IsTrueTable, IsRefusedTable};
+
 use crate::head::begun;
 use crate::names::label;
 use crate::outcome::Outcome;
@@ -36,7 +45,9 @@ struct Timing {
 }
 
 /// The names of the outputs, in order.
-fn labels(alloc: Global, circuit: &Circuit) -> Result<Vec<Label>, AllocError> {
+fn labels(alloc: Global, circuit: &Circuit) -> Result<Vec<Label>, AllocError>
+    ensures { IfOk result (λ names. names.items ≡ map label circuit.now.netlist.outputs) }
+{
     let _gates = circuit.gates();
     let mut names = Vec::new(alloc);
     for output in circuit.outputs() {
@@ -51,7 +62,10 @@ fn outline_of<'n, 'w>(
     text: &'n [u8],
     reading: &Reading<'_>,
     search: &Search<'w>,
-) -> Result<Outline, Refusal<'n, 'w>> {
+) -> Result<Outline, Refusal<'n, 'w>>
+    ensures outline { IfOk result (λ outline. IsOutline text.now reading.now outline.report outline.names.items) }
+    ensures refusal { IfErr result (IsRefusedSearch text.now reading.now search.now) }
+{
     let asked = question_of(alloc, text, reading, &search.question)?;
     let report = begun(alloc, &asked.circuit)?;
     let names = labels(alloc, &asked.circuit)?;
@@ -59,7 +73,9 @@ fn outline_of<'n, 'w>(
 }
 
 /// What an answer says of the worst delay.
-fn found_of(answer: &Answer) -> Found {
+fn found_of(answer: &Answer) -> Found
+    ensures { result ≡ found_of answer.now }
+{
     match answer {
         Answer::Exact { time, .. } => Found::Exact(*time),
         Answer::Between { low, high, .. } => Found::Between {
@@ -70,7 +86,10 @@ fn found_of(answer: &Answer) -> Found {
 }
 
 /// The latest moment by edges, for the pairs of a cube.
-fn edges_of(alloc: Global, circuit: &Circuit, cube: &Cube) -> Result<Option<u64>, AllocError> {
+fn edges_of(alloc: Global, circuit: &Circuit, cube: &Cube) -> Result<Option<u64>, AllocError>
+    requires { length cube.now ≡ 2 * length circuit.now.netlist.inputs }
+    ensures { IfOk result (IsSoundBound by.Edges (setting circuit.now) cube.now) }
+{
     let edges = bound::<Edges>(alloc, circuit, cube)?;
     Ok(edges)
 }
@@ -82,7 +101,10 @@ fn timing_of<'n, 'w, R: Threads + Wait + Clock + Sync>(
     text: &'n [u8],
     reading: &Reading<'_>,
     search: &Search<'w>,
-) -> Result<Timing, Refusal<'n, 'w>> {
+) -> Result<Timing, Refusal<'n, 'w>>
+    ensures timing { IfOk result (λ timing. AreTrueFigures text.now reading.now search.now timing.found timing.edges) }
+    ensures refusal { IfErr result (IsRefusedSearch text.now reading.now search.now) }
+{
     let asked = question_of(alloc, text, reading, &search.question)?;
     let edges = edges_of(alloc, &asked.circuit, asked.admit.pins())?;
     let answer = td_worst::worst(
@@ -108,7 +130,10 @@ fn row_of<'n, 'w, R: Threads + Wait + Clock + Sync>(
     reading: &Reading<'_>,
     search: &Search<'w>,
     name: &str,
-) -> Result<Row, Refusal<'n, 'w>> {
+) -> Result<Row, Refusal<'n, 'w>>
+    ensures row { IfOk result (IsTrueRow text.now reading.now search.now name.now) }
+    ensures refusal { IfErr result (RowFails text.now reading.now search.now name.now) }
+{
     let alone = Reading {
         default: reading.default,
         output: Some(name),
@@ -130,7 +155,10 @@ fn rows<'n, 'w, R: Threads + Wait + Clock + Sync>(
     reading: &Reading<'_>,
     search: &Search<'w>,
     names: &[Label],
-) -> Result<Vec<Row>, Refusal<'n, 'w>> {
+) -> Result<Vec<Row>, Refusal<'n, 'w>>
+    ensures rows { IfOk result (λ rows. AreRows text.now reading.now search.now names.now rows.items) }
+    ensures refusal { IfErr result (HasNoRow text.now reading.now search.now names.now) }
+{
     let mut rows = Vec::new(alloc);
     for name in names {
         let row = row_of(rt, alloc, text, reading, search, name.text())?;
@@ -140,7 +168,9 @@ fn rows<'n, 'w, R: Threads + Wait + Clock + Sync>(
 }
 
 /// Whether the worst delay is known.
-fn is_exact(found: Found) -> bool {
+fn is_exact(found: Found) -> bool
+    ensures { result ≡ is_exact found }
+{
     match found {
         Found::Exact(_) => true,
         Found::Between { .. } => false,
@@ -148,7 +178,9 @@ fn is_exact(found: Found) -> bool {
 }
 
 /// How a table ends: some search was cut short, or all are exact.
-fn ending(rows: &[Row]) -> Status {
+fn ending(rows: &[Row]) -> Status
+    ensures { result ≡ table_ending rows.now }
+{
     for row in rows {
         if !is_exact(row.found) {
             return Status::Between;
@@ -158,7 +190,9 @@ fn ending(rows: &[Row]) -> Status {
 }
 
 /// Appends the rows, where there are any.
-fn push_rows(report: &mut Report, rows: Vec<Row>) -> Result<(), AllocError> {
+fn push_rows(report: &mut Report, rows: Vec<Row>) -> Result<(), AllocError>
+    ensures { OnOk result (AddsLines (HasRows rows.items) report.old report.new) }
+{
     if rows.is_empty() {
         return Ok(());
     }
@@ -172,7 +206,11 @@ pub(crate) fn table<'n, 'w, R: Threads + Wait + Clock + Sync>(
     text: &'n [u8],
     reading: &Reading<'_>,
     search: &Search<'w>,
-) -> Result<Outcome, Refusal<'n, 'w>> {
+) -> Result<Outcome, Refusal<'n, 'w>>
+    ensures says { IfOk result (IsTrueTable text.now reading.now search.now) }
+    ensures certified { IfOk result (λ outcome. outcome.certificate ≡ Nothing) }
+    ensures refusal { IfErr result (IsRefusedTable text.now reading.now search.now) }
+{
     let Outline { report, names } = outline_of(alloc, text, reading, search)?;
     let rows = rows(rt, alloc, text, reading, search, &names)?;
     let status = ending(&rows);
@@ -183,5 +221,6 @@ pub(crate) fn table<'n, 'w, R: Threads + Wait + Clock + Sync>(
         certificate: None,
         dump: None,
         status,
+        verdict: None,
     })
 }

@@ -1,7 +1,7 @@
 //! The lines with which a report begins.
 
 ghost use Rattle.std.specs.Prelude.{◌≡◌, IfOk};
-//ghost use Rattle.td_answer.specs.Heads.{head_lines};
+ghost use Rattle.td_answer.specs.Heads.{head_lines};
 
 use std::alloc::{AllocError, Global};
 use td_circuit::Circuit;

@@ -2,7 +2,7 @@
 
 ghost use Rattle.std.specs.Prelude.{◌≡◌, IfOk};
 ghost use Rattle.td_nets.specs.Views.{name_of};
-//ghost use Rattle.td_answer.specs.Names.{label};
+ghost use Rattle.td_answer.specs.Names.{label};
 
 use std::alloc::{AllocError, Global};
 use td_lines::Label;

@@ -1,5 +1,9 @@
 //! The parts of a question, as options by which `worst` searches them.
 
+ghost use Rattle.std.specs.Prelude.{◌≡◌, ◌∷◌, ◌++◌, [], map, decimal, IfOk, IfErr, OnOk, None as Nothing};
+ghost use Rattle.td_inputs.specs.Placings.{words_by_place, text_of};
+ghost use Rattle.td_answer.specs.Parts.{given_words, flips_words, default_words, pins_words, question_words, reading_words, part_words, HasParts, IsTrueParts, IsRefusedParts};
+
 use crate::outcome::Outcome;
 use crate::pins::trits;
 use crate::refusal::Refusal;
@@ -16,7 +20,9 @@ use td_search::{Problem, SearchFault};
 use td_worst::WorstFault;
 
 /// Appends a word.
-fn push_word(alloc: Global, words: &mut Vec<Label>, word: &str) -> Result<(), AllocError> {
+fn push_word(alloc: Global, words: &mut Vec<Label>, word: &str) -> Result<(), AllocError>
+    ensures { OnOk result (words.new.items ≡ words.old.items ++ word.now ∷ []) }
+{
     let word = String::from_str(alloc, word)?;
     words.push(Label::new(word))?;
     Ok(())
@@ -28,7 +34,9 @@ fn push_option(
     words: &mut Vec<Label>,
     name: &str,
     word: &str,
-) -> Result<(), AllocError> {
+) -> Result<(), AllocError>
+    ensures { OnOk result (words.new.items ≡ words.old.items ++ name.now ∷ word.now ∷ []) }
+{
     push_word(alloc, words, name)?;
     push_word(alloc, words, word)
 }
@@ -39,7 +47,9 @@ fn push_given(
     words: &mut Vec<Label>,
     name: &str,
     word: Option<&str>,
-) -> Result<(), AllocError> {
+) -> Result<(), AllocError>
+    ensures { OnOk result (words.new.items ≡ words.old.items ++ given_words name.now (text_of word.entry)) }
+{
     match word {
         None => Ok(()),
         Some(word) => push_option(alloc, words, name, word),
@@ -52,13 +62,17 @@ fn push_number(
     words: &mut Vec<Label>,
     name: &str,
     number: u64,
-) -> Result<(), AllocError> {
+) -> Result<(), AllocError>
+    ensures { OnOk result (words.new.items ≡ words.old.items ++ name.now ∷ decimal number ∷ []) }
+{
     let word = format!(in alloc; "{number}")?;
     push_option(alloc, words, name, &word)
 }
 
 /// Appends the most flips, where they are given.
-fn push_flips(alloc: Global, words: &mut Vec<Label>, flips: Option<u64>) -> Result<(), AllocError> {
+fn push_flips(alloc: Global, words: &mut Vec<Label>, flips: Option<u64>) -> Result<(), AllocError>
+    ensures { OnOk result (words.new.items ≡ words.old.items ++ flips_words flips) }
+{
     match flips {
         None => Ok(()),
         Some(flips) => push_number(alloc, words, "--flips", flips),
@@ -71,7 +85,9 @@ fn push_default(
     words: &mut Vec<Label>,
     name: &str,
     steps: u32,
-) -> Result<(), AllocError> {
+) -> Result<(), AllocError>
+    ensures { OnOk result (words.new.items ≡ words.old.items ++ default_words name.now steps) }
+{
     if steps == 1 {
         return Ok(());
     }
@@ -79,7 +95,9 @@ fn push_default(
 }
 
 /// Appends the pins of a part.
-fn push_pins(alloc: Global, words: &mut Vec<Label>, cube: &Cube) -> Result<(), AllocError> {
+fn push_pins(alloc: Global, words: &mut Vec<Label>, cube: &Cube) -> Result<(), AllocError>
+    ensures { OnOk result (words.new.items ≡ words.old.items ++ pins_words cube.now) }
+{
     let first = trits(alloc, cube, false)?;
     push_option(alloc, words, "--first", &first)?;
     let second = trits(alloc, cube, true)?;
@@ -92,7 +110,9 @@ fn push_question(
     words: &mut Vec<Label>,
     placed: &ByPlace,
     flips: Option<u64>,
-) -> Result<(), AllocError> {
+) -> Result<(), AllocError>
+    ensures { OnOk result (words.new.items ≡ words.old.items ++ question_words (words_by_place placed.now) flips) }
+{
     push_given(alloc, words, "--hold", placed.hold.as_deref())?;
     push_flips(alloc, words, flips)?;
     push_given(alloc, words, "--at", placed.at.as_deref())
@@ -103,7 +123,9 @@ fn push_reading(
     alloc: Global,
     words: &mut Vec<Label>,
     reading: &Reading<'_>,
-) -> Result<(), AllocError> {
+) -> Result<(), AllocError>
+    ensures { OnOk result (words.new.items ≡ words.old.items ++ reading_words reading.now) }
+{
     push_default(alloc, words, "--default-rise", reading.default.rise)?;
     push_default(alloc, words, "--default-fall", reading.default.fall)?;
     push_given(alloc, words, "--output", reading.output)
@@ -116,7 +138,9 @@ fn part_of(
     placed: &ByPlace,
     flips: Option<u64>,
     reading: &Reading<'_>,
-) -> Result<Part, AllocError> {
+) -> Result<Part, AllocError>
+    ensures { IfOk result (λ part. part.words.items ≡ part_words reading.now (words_by_place placed.now) flips cube.now) }
+{
     let mut words = Vec::new(alloc);
     push_pins(alloc, &mut words, cube)?;
     push_question(alloc, &mut words, placed, flips)?;
@@ -124,21 +148,30 @@ fn part_of(
     Ok(Part { words })
 }
 
-/// The report of parts.
-fn report_of(
+/// The line of the parts.
+fn line_of(
     alloc: Global,
     cubes: &[Cube],
     placed: &ByPlace,
     flips: Option<u64>,
     reading: &Reading<'_>,
-) -> Result<Report, AllocError> {
+) -> Result<Line, AllocError>
+    ensures { IfOk result (HasParts (map (part_words reading.now (words_by_place placed.now) flips) cubes.now)) }
+{
     let mut parts = Vec::new(alloc);
     for cube in cubes {
         let part = part_of(alloc, cube, placed, flips, reading)?;
         parts.push(part)?;
     }
+    Ok(Line::Parts(parts))
+}
+
+/// A report of one line.
+fn report_of(alloc: Global, line: Line) -> Result<Report, AllocError>
+    ensures { IfOk result (λ report. report ≡ line ∷ []) }
+{
     let mut report = Report::new(alloc);
-    report.add(Line::Parts(parts))?;
+    report.add(line)?;
     Ok(report)
 }
 
@@ -148,7 +181,11 @@ pub(crate) fn parts<'n, 'w>(
     text: &'n [u8],
     reading: &Reading<'_>,
     asked: &Parts<'w>,
-) -> Result<Outcome, Refusal<'n, 'w>> {
+) -> Result<Outcome, Refusal<'n, 'w>>
+    ensures says { IfOk result (IsTrueParts text.now reading.now asked.now) }
+    ensures certified { IfOk result (λ outcome. outcome.certificate ≡ Nothing) }
+    ensures refusal { IfErr result (IsRefusedParts text.now reading.now asked.now) }
+{
     let about = question_of(alloc, text, reading, &asked.question)?;
     let problem = Problem {
         circuit: &about.circuit,
@@ -159,6 +196,7 @@ pub(crate) fn parts<'n, 'w>(
     if cubes.is_empty() {
         return Err(Refusal::Search(WorstFault::Search(SearchFault::NoPair)));
     }
-    let report = report_of(alloc, &cubes, &about.words, asked.question.flips, reading)?;
+    let line = line_of(alloc, &cubes, &about.words, asked.question.flips, reading)?;
+    let report = report_of(alloc, line)?;
     Ok(Outcome::done(report))
 }

@@ -1,5 +1,16 @@
 //! Why an output changes last when it does.
 
+ghost use Rattle.std.specs.Prelude.{◌≡◌, ◌<◌, length, IfOk, IfErr, IfSome, IfNone, OnOk, None as Nothing, Some as Present};
+ghost use Rattle.std.specs.Str.{bytes_eq};
+ghost use Rattle.td_nets.specs.Printed.{printed};
+ghost use Rattle.td_nets.specs.Views.{name_of};
+ghost use Rattle.td_circuit.specs.Numbering.{nets, setting};
+ghost use Rattle.td_path.specs.Chains.{IsRunFor};
+ghost use Rattle.td_answer.specs.Heads.{head_lines};
+ghost use Rattle.td_answer.specs.Runs.{TellsOutput, IsStill};
+ghost use Rattle.td_answer.specs.Additions.{AddsLines, IsOutputNamed, TellsNet, NeverChanges, waves_in};
+ghost use Rattle.td_answer.specs.Paths.{ReportsPath, HasNoneNamed, IsTruePath, IsRefusedPath};
+
 use crate::beside::{changes_line, latest_line};
 use crate::head::begun;
 use crate::names::label;
@@ -16,14 +27,18 @@ use td_request::Path;
 use td_run::Run;
 
 /// Whether reports print a name so.
-fn is_printed(alloc: Global, name: &Name, word: &str) -> Result<bool, AllocError> {
+fn is_printed(alloc: Global, name: &Name, word: &str) -> Result<bool, AllocError>
+    ensures { IfOk result (λ same. same ≡ bytes_eq (printed (name_of name.now)) word.now) }
+{
     let mut text = Vec::new(alloc);
     name.print(&mut text)?;
     Ok(text.as_slice() == word.as_bytes())
 }
 
 /// The net of the first output that reports print so, if there is one.
-fn output_named(alloc: Global, circuit: &Circuit, word: &str) -> Result<Option<u32>, AllocError> {
+fn output_named(alloc: Global, circuit: &Circuit, word: &str) -> Result<Option<u32>, AllocError>
+    ensures { IfOk result (IsOutputNamed circuit.now word.now) }
+{
     let _gates = circuit.gates();
     for output in circuit.outputs() {
         let same = is_printed(alloc, circuit.name(*output as usize), word)?;
@@ -40,7 +55,11 @@ fn push_never(
     report: &mut Report,
     circuit: &Circuit,
     net: u32,
-) -> Result<(), AllocError> {
+) -> Result<(), AllocError>
+    requires constant { 1 < net }
+    requires net { net < length (nets circuit.now) }
+    ensures { OnOk result (AddsLines (NeverChanges circuit.now net) report.old report.new) }
+{
     let output = label(alloc, circuit.name(net as usize))?;
     let mut rows = Vec::new(alloc);
     rows.push(Last {
@@ -57,7 +76,12 @@ fn push_chain(
     circuit: &Circuit,
     run: &Run,
     net: u32,
-) -> Result<(), AllocError> {
+) -> Result<(), AllocError>
+    requires run { IsRunFor circuit.now run.now }
+    requires constant { 1 < net }
+    requires net { net < length (nets circuit.now) }
+    ensures { OnOk result (AddsLines (TellsNet circuit.now run.now net) report.old report.new) }
+{
     match chain_of(alloc, circuit, run, net)? {
         Some(links) => {
             let line = changes_line(alloc, circuit, &links)?;
@@ -68,7 +92,10 @@ fn push_chain(
 }
 
 /// The report on the output of a run that changes last.
-fn latest_report(alloc: Global, circuit: &Circuit, run: &Run) -> Result<Report, AllocError> {
+fn latest_report(alloc: Global, circuit: &Circuit, run: &Run) -> Result<Report, AllocError>
+    requires { IsRunFor circuit.now run.now }
+    ensures { IfOk result (ReportsPath (setting circuit.now) (waves_in circuit.now run.now) Nothing) }
+{
     let mut report = begun(alloc, circuit)?;
     let line = latest_line(alloc, circuit, run)?;
     report.add(line)?;
@@ -81,7 +108,12 @@ fn named_report(
     circuit: &Circuit,
     run: &Run,
     word: &str,
-) -> Result<Option<Report>, AllocError> {
+) -> Result<Option<Report>, AllocError>
+    requires { IsRunFor circuit.now run.now }
+    ensures reported { IfOk result (λ reported. IfSome reported (λ report.
+        ReportsPath (setting circuit.now) (waves_in circuit.now run.now) (Present word) report)) }
+    ensures none { IfOk result (λ reported. IfNone reported (HasNoneNamed circuit.now.netlist word.now)) }
+{
     let Some(net) = output_named(alloc, circuit, word)? else {
         return Ok(None);
     };
@@ -98,7 +130,11 @@ pub(crate) fn path<'n, 'w>(
     text: &'n [u8],
     reading: &Reading<'_>,
     asked: &Path<'w>,
-) -> Result<Outcome, Refusal<'n, 'w>> {
+) -> Result<Outcome, Refusal<'n, 'w>>
+    ensures says { IfOk result (IsTruePath text.now reading.now asked.now) }
+    ensures certified { IfOk result (λ outcome. outcome.certificate ≡ Nothing) }
+    ensures refusal { IfErr result (IsRefusedPath text.now reading.now asked.now) }
+{
     let waves = simulated(alloc, text, reading, &asked.inputs, asked.from, asked.to)?;
     match asked.output {
         None => {

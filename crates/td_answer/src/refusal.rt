@@ -1,11 +1,11 @@
 //! Why a request has no outcome.
 
 ghost use Rattle.std.specs.Prelude.{◌≡◌};
-//ghost use Rattle.td_answer.specs.Statuses.{source_status, question_status, search_status, check_status, status_of};
-//ghost use Rattle.td_answer.specs.declared.refusal.Refusal.TheVariants as refusal;
+ghost use Rattle.td_answer.specs.Statuses.{source_status, question_status, search_status, check_status, status_of};
+ghost use Rattle.td_answer.specs.declared.refusal.Refusal.TheVariants as refusal;
 
 use crate::status::Status;
-use std::alloc::AllocError;
+use std::alloc::{AllocError, AllocFailed};
 use td_certificate::CertFault;
 use td_checker::{CheckFault, Verdict};
 use td_join::JoinFault;
@@ -45,6 +45,14 @@ impl<'n, 'w> From<AllocError> for Refusal<'n, 'w> {
     ghost from_gives = { λ _ r. r ≡ refusal.OutOfMemory };
 
     fn from(_error: AllocError) -> Self {
+        Refusal::OutOfMemory
+    }
+}
+
+impl<'n, 'w, T: Drop> From<AllocFailed<T>> for Refusal<'n, 'w> {
+    ghost from_gives = { λ _ r. r ≡ refusal.OutOfMemory };
+
+    fn from(_failed: AllocFailed<T>) -> Self {
         Refusal::OutOfMemory
     }
 }

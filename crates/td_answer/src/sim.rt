@@ -1,6 +1,13 @@
 //! The run of a pair of vectors.
 
-use crate::beside::push_output;
+ghost use Rattle.std.specs.Prelude.{◌≡◌, length, map, is_some, IfOk, IfErr, OnOk, if◌then◌else◌, None as Nothing, Some as Present};
+ghost use Rattle.td_circuit.specs.Numbering.{nets, setting};
+ghost use Rattle.td_answer.specs.Runs.{last_of, AreLasts};
+ghost use Rattle.td_answer.specs.Additions.{AddsLines, waves_in};
+ghost use Rattle.td_answer.specs.Dumps.{waves_of};
+ghost use Rattle.td_answer.specs.Simulations.{IsSimulated, HasRun, IsRunReport, IsTrueSim, IsRefusedRun, IsRefusedSim};
+
+use crate::beside::push_last;
 use crate::head::begun;
 use crate::names::label;
 use crate::outcome::{Outcome, Waves};
@@ -22,7 +29,11 @@ pub(crate) fn simulated<'n, 'w>(
     inputs: &Inputs<'w>,
     from: &str,
     to: &str,
-) -> Result<Waves, Refusal<'n, 'w>> {
+) -> Result<Waves, Refusal<'n, 'w>>
+    ensures is { IfOk result (λ waves. IsSimulated text.now reading.now inputs.now from.now to.now (setting waves.circuit) (waves_of waves)) }
+    ensures has { IfOk result (λ waves. HasRun waves.circuit waves.run) }
+    ensures refusal { IfErr result (IsRefusedRun text.now reading.now inputs.now from.now to.now) }
+{
     let asked = pair_of(alloc, text, reading, inputs, from, to)?;
     let PairAsked {
         circuit,
@@ -34,7 +45,10 @@ pub(crate) fn simulated<'n, 'w>(
 }
 
 /// When each output changes last.
-fn lasts(alloc: Global, circuit: &Circuit, run: &Run) -> Result<Vec<Last>, AllocError> {
+fn lasts(alloc: Global, circuit: &Circuit, run: &Run) -> Result<Vec<Last>, AllocError>
+    requires { length run.now.waves ≡ length (nets circuit.now) }
+    ensures { IfOk result (λ rows. rows.items ≡ map (last_of (waves_in circuit.now run.now)) circuit.now.netlist.outputs) }
+{
     let _gates = circuit.gates();
     let mut rows = Vec::new(alloc);
     for output in circuit.outputs() {
@@ -49,7 +63,9 @@ fn lasts(alloc: Global, circuit: &Circuit, run: &Run) -> Result<Vec<Last>, Alloc
 }
 
 /// Appends when outputs change last, where there are any.
-pub(crate) fn push_lasts(report: &mut Report, rows: Vec<Last>) -> Result<(), AllocError> {
+pub(crate) fn push_lasts(report: &mut Report, rows: Vec<Last>) -> Result<(), AllocError>
+    ensures { OnOk result (AddsLines (AreLasts rows.items) report.old report.new) }
+{
     if rows.is_empty() {
         return Ok(());
     }
@@ -63,15 +79,23 @@ fn report_of(
     circuit: &Circuit,
     run: &Run,
     outputs: bool,
-) -> Result<Report, AllocError> {
+) -> Result<Report, AllocError>
+    requires { HasRun circuit.now run.now }
+    ensures { IfOk result (IsRunReport outputs circuit.now.netlist (waves_in circuit.now run.now)) }
+{
     let mut report = begun(alloc, circuit)?;
     let rows = lasts(alloc, circuit, run)?;
     push_lasts(&mut report, rows)?;
     report.add(Line::Time(run.last_of_outputs()))?;
-    if outputs {
-        push_output(alloc, &mut report, circuit, run)?;
-    }
+    push_last(alloc, &mut report, circuit, run, outputs)?;
     Ok(report)
+}
+
+/// The waves, where they are asked for.
+fn dump_where(is_asked: bool, waves: Waves) -> Option<Waves>
+    ensures { result ≡ (if is_asked then Present waves else Nothing) }
+{
+    if is_asked { Some(waves) } else { None }
 }
 
 /// The run of a pair of vectors.
@@ -80,17 +104,19 @@ pub(crate) fn sim<'n, 'w>(
     text: &'n [u8],
     reading: &Reading<'_>,
     asked: &Sim<'w>,
-) -> Result<Outcome, Refusal<'n, 'w>> {
+) -> Result<Outcome, Refusal<'n, 'w>>
+    ensures says { IfOk result (IsTrueSim text.now reading.now asked.now) }
+    ensures certified { IfOk result (λ outcome. outcome.certificate ≡ Nothing) }
+    ensures refusal { IfErr result (IsRefusedSim text.now reading.now asked.now) }
+{
     let waves = simulated(alloc, text, reading, &asked.inputs, asked.from, asked.to)?;
     let report = report_of(alloc, &waves.circuit, &waves.run, asked.outputs)?;
-    let dump = match asked.dump {
-        Some(_) => Some(waves),
-        None => None,
-    };
+    let dump = dump_where(asked.dump.is_some(), waves);
     Ok(Outcome {
         report,
         certificate: None,
         dump,
         status: Status::Done,
+        verdict: None,
     })
 }

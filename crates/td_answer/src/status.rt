@@ -1,7 +1,7 @@
 //! How a request ends.
 
 ghost use Rattle.std.specs.Prelude.{◌≡◌};
-//ghost use Rattle.td_answer.specs.Statuses.{code_of};
+ghost use Rattle.td_answer.specs.Statuses.{code_of};
 
 /// How a request ends.
 #[derive(Clone, Copy, Debug, PartialEq, Eq, Drop)]

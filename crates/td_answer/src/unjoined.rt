@@ -1,7 +1,7 @@
 //! Why the parts of a question aren't joined.
 
 ghost use Rattle.std.specs.Prelude.{◌≡◌, ◌++◌, OnOk};
-//ghost use Rattle.td_answer.specs.Refusals.{two_text, one_text, gap_text, unjoined_text};
+ghost use Rattle.td_answer.specs.Refusals.{two_text, one_text, gap_text, unjoined_text};
 
 use crate::pins;
 use std::alloc::AllocError;

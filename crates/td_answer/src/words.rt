@@ -3,7 +3,7 @@
 ghost use Rattle.std.specs.Prelude.{◌≡◌, ◌++◌, map, slice_get, OnOk};
 ghost use Rattle.td_inputs.specs.Labels.{label_in};
 ghost use Rattle.td_inputs.specs.Readings.{fault_in};
-//ghost use Rattle.td_answer.specs.Refusals.{vector_word, called, bad_text, no_input_text, clash_text, input_text, word_text};
+ghost use Rattle.td_answer.specs.Refusals.{vector_word, called, bad_text, no_input_text, clash_text, input_text, word_text};
 
 use std::alloc::AllocError;
 use td_inputs::{Label, Topic, WordFault};
