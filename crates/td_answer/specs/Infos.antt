@@ -12,6 +12,7 @@ use Rattle.td_lines.specs.declared.line.Place.{Place}
 use Rattle.td_lines.specs.declared.line.Line.{Line}
 use Rattle.td_lines.specs.declared.line.Line.TheVariants as line
 use Rattle.td_answer.specs.Names.{label}
+use Rattle.td_answer.specs.Rows.{HasRows}
 use Rattle.td_answer.specs.declared.outcome.Outcome.{Outcome}
 use Rattle.td_answer.specs.declared.refusal.Refusal.{Refusal}
 use Rattle.td_answer.specs.declared.refusal.Refusal.TheVariants as refusal
@@ -24,15 +25,11 @@ places_from place (name ∷ others) = record { place = place; net = label name }
 
 -- the line of inputs, where there are any
 abbrev pub AreInputs : List Place → List Line → Type 0
-AreInputs [] lines = lines ≡ []
-AreInputs (row ∷ rows) (line.InputPlaces all ∷ []) = all.items ≡ row ∷ rows
-AreInputs (row ∷ rows) other = ⊥
+AreInputs = HasRows (λ rows. line.InputPlaces rows)
 
 -- that of outputs
 abbrev pub AreOutputs : List Place → List Line → Type 0
-AreOutputs [] lines = lines ≡ []
-AreOutputs (row ∷ rows) (line.OutputPlaces all ∷ []) = all.items ≡ row ∷ rows
-AreOutputs (row ∷ rows) other = ⊥
+AreOutputs = HasRows (λ rows. line.OutputPlaces rows)
 
 abbrev pub span_of : Option Range → Option Span
 span_of None = None

@@ -2,6 +2,7 @@ pub mod Statuses
 pub mod Refusals
 pub mod Heads
 pub mod Names
+pub mod Rows
 pub mod Methods
 pub mod Lines
 pub mod Runs

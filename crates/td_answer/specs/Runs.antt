@@ -19,6 +19,7 @@ use Rattle.td_lines.specs.declared.line.Change.{Change}
 use Rattle.td_lines.specs.declared.line.Driver.{Driver}
 use Rattle.td_request.specs.declared.request.Shown.{Shown}
 use Rattle.td_answer.specs.Names.{label}
+use Rattle.td_answer.specs.Rows.{HasRows}
 
 -- ---- when outputs change last
 
@@ -28,9 +29,7 @@ last_of waves name = record { output = label name; moment = last (waves (Named n
 
 -- the line of these moments, where there are any
 abbrev pub AreLasts : List Last → List Line → Type 0
-AreLasts [] lines = lines ≡ []
-AreLasts (row ∷ rows) (line.Lasts all ∷ []) = all.items ≡ row ∷ rows
-AreLasts (row ∷ rows) other = ⊥
+AreLasts = HasRows (λ rows. line.Lasts rows)
 
 -- ---- chains of changes
 

@@ -20,6 +20,7 @@ use Rattle.td_lines.specs.declared.line.Line.{Line}
 use Rattle.td_lines.specs.declared.line.Line.TheVariants as line
 use Rattle.td_answer.specs.Heads.{head_lines}
 use Rattle.td_answer.specs.Names.{label}
+use Rattle.td_answer.specs.Rows.{HasRows}
 use Rattle.td_answer.specs.Searches.{IsRefusedSearch}
 use Rattle.td_answer.specs.Sentences.{LiesBetween}
 use Rattle.td_answer.specs.declared.outcome.Outcome.{Outcome}
@@ -67,10 +68,8 @@ abbrev pub AreRows : List ℕ → Reading → Search → List (List ℕ) → Lis
 AreRows text reading search names rows = AllZip (IsTrueRow text reading search) names rows
 
 -- the line of the rows, where there are any
-abbrev pub HasRows : List Row → List Line → Type 0
-HasRows [] lines = lines ≡ []
-HasRows (row ∷ rows) (line.Each all ∷ []) = all.items ≡ row ∷ rows
-HasRows (row ∷ rows) other = ⊥
+abbrev pub AreEach : List Row → List Line → Type 0
+AreEach = HasRows (λ rows. line.Each rows)
 
 abbrev pub is_exact : Found → Bool
 is_exact (found.Exact time) = true
@@ -96,7 +95,7 @@ pub record IsTrueTable (text : List ℕ) (reading : Reading) (search : Search) (
   pub rows : List Row
   pub are_rows : AreRows text reading search (map label netlist.outputs) rows
   pub lines : List Line
-  pub has : HasRows rows lines
+  pub has : AreEach rows lines
   pub is : outcome.report ≡ head_lines netlist ++ lines
   pub ends : outcome.status ≡ table_ending rows
 

@@ -7,7 +7,7 @@ ghost use Rattle.td_answer.specs.Names.{label};
 ghost use Rattle.td_answer.specs.Additions.{AddsLines};
 ghost use Rattle.td_answer.specs.Bounds.{IsSoundBound};
 ghost use Rattle.td_answer.specs.Searches.{IsRefusedSearch};
-ghost use Rattle.td_answer.specs.Tables.{found_of, is_exact, table_ending, IsOutline, AreTrueFigures, IsTrueRow, AreRows, HasRows, RowFails, HasNoRow, IsTrueTable, IsRefusedTable};
+ghost use Rattle.td_answer.specs.Tables.{found_of, is_exact, table_ending, IsOutline, AreTrueFigures, IsTrueRow, AreRows, AreEach, RowFails, HasNoRow, IsTrueTable, IsRefusedTable};
 
 use crate::head::begun;
 use crate::names::label;
@@ -191,7 +191,7 @@ fn ending(rows: &[Row]) -> Status
 
 /// Appends the rows, where there are any.
 fn push_rows(report: &mut Report, rows: Vec<Row>) -> Result<(), AllocError>
-    ensures { OnOk result (AddsLines (HasRows rows.items) report.old report.new) }
+    ensures { OnOk result (AddsLines (AreEach rows.items) report.old report.new) }
 {
     if rows.is_empty() {
         return Ok(());

@@ -69,7 +69,7 @@ fn asked_by<'a, 'w>(
     requires { length circuit.netlist.inputs < 2 ^ 32 }
     ensures asked { IfOk result (λ asked. AreAdmitted circuit.netlist (words_by_place words) flips (setting asked.circuit) asked.admit) }
     ensures output { IfOk result (λ asked. asked.output ≡ output) }
-    ensures words { IfOk result (λ asked. words_by_place asked.words ≡ words_by_place words) }
+    ensures words { IfOk result (λ asked. (asked.circuit.netlist ≡ circuit.netlist) × (words_by_place asked.words ≡ words_by_place words)) }
     ensures fault { IfErr result (IsWordFault (length circuit.netlist.inputs) (placed_words (words_by_place words))) }
 {
     let mut circuit = circuit;

@@ -51,8 +51,7 @@ fn given_by<'a, 'w>(
     circuit: Circuit,
     words: &ByPlace,
 ) -> Result<PinsAsked, QuestionFault<'a, 'w>>
-    ensures circuit { IfOk result (λ asked. asked.circuit ≡ circuit) }
-    ensures asked { IfOk result (λ asked. ArePinsOf (length circuit.netlist.inputs) (words_by_place words.now) asked.pins) }
+    ensures asked { IfOk result (λ asked. (asked.circuit ≡ circuit) × ArePinsOf (length circuit.netlist.inputs) (words_by_place words.now) asked.pins) }
     ensures fault { IfErr result (IsWordFault (length circuit.netlist.inputs) (pin_words (words_by_place words.now))) }
 {
     let inputs = circuit.input_count();
