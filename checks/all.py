@@ -38,7 +38,7 @@ from lib.check import SKIPPED
 # The minutes of the quick part.
 QUICK = 10
 # Scripts of this folder that are no checks of a program.
-NO_CHECKS = {"all", "wrong_bodies", "parameters", "figures"}
+NO_CHECKS = {"all", "wrong_bodies", "parameters", "figures", "hall"}
 # Checks that are run where there are this many minutes.
 LATER = {"first_command": 20}
 # What takes longest begins first.
