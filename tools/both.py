@@ -9,8 +9,8 @@ go-between does what OLD did. So each call of the worked rows (ROWS.PY is their 
 transcripts is tried, and random calls on small netlists. Calls whose answer isn't the same each
 time, as with `--progress` or several `--workers`, are counted and not compared.
 
-Prints the calls that differ, and as its last line how many are the same, differ and weren't
-compared. The exit status is 1 where some differ.
+Prints the calls that differ, and as its last line how many are the same, differ, are refused by both
+for another of several faults, and weren't compared. The exit status is 1 where some differ.
 """
 
 import argparse
@@ -79,12 +79,19 @@ def described(result):
     }
 
 
+def are_refused(one, other):
+    """Whether both refuse a call that has several faults, and name another one."""
+    refused = all(not out and status in (1, 2, 4, 5) for (status, out, _), _ in (one, other))
+    return refused and one[1] == other[1]
+
+
 def compared(old, new, words, folder, given):
     """An entry of the log on one call."""
     one, other = run_copy(old, words, folder, given), run_copy(new, words, folder, given)
     if one == other:
         return {"same": True}
-    return {"same": False, "words": words, "old": described(one), "new": described(other)}
+    same = "refused" if are_refused(one, other) else False
+    return {"same": same, "words": words, "old": described(one), "new": described(other)}
 
 
 def go_between(old, new, log, words):
@@ -263,9 +270,13 @@ def report(log):
                 total[entry["same"]] += 1
                 if entry["same"] is False:
                     kinds[entry["words"][0] if entry["words"] else ""] += 1
+                if entry["same"] in (False, "refused"):
                     print(json.dumps(entry))
     print(f"differ by command: {dict(kinds)}")
-    print(f"same {total[True]} differ {total[False]} not compared {total[None]}")
+    print(
+        f"same {total[True]} differ {total[False]} refused for another fault {total['refused']} "
+        f"not compared {total[None]}"
+    )
     return 1 if total[False] else 0
 
 

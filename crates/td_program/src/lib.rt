@@ -23,6 +23,8 @@ mod print;
 mod program;
 mod progress;
 mod refusals;
+#[cfg(test)]
+mod tests;
 mod usage;
 mod vectors;
 

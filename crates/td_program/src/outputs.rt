@@ -19,14 +19,15 @@ pub(crate) fn outputs_of<'w>(request: &Request<'w>) -> Outputs<'w>
     ensures { result ≡ outputs_of request.now.command }
 {
     match &request.command {
-        Command::Worst(search) => outputs(search.certificate, search.dump),
-        Command::Sim(sim) => outputs(None, sim.dump),
-        Command::Join(join) => outputs(join.certificate, None),
-        _ => outputs(None, None),
+        Command::Worst(search) => named(search.certificate, search.dump),
+        Command::Sim(sim) => named(None, sim.dump),
+        Command::Join(join) => named(join.certificate, None),
+        _ => named(None, None),
     }
 }
 
-fn outputs<'w>(certificate: Option<&'w str>, dump: Option<&'w str>) -> Outputs<'w>
+/// The files of these names.
+fn named<'w>(certificate: Option<&'w str>, dump: Option<&'w str>) -> Outputs<'w>
     ensures { result ≡ record { certificate = certificate.entry; dump = dump.entry } }
 {
     Outputs { certificate, dump }
