@@ -173,6 +173,7 @@ impl<'r, 'w, 't> Case<'r, 'w, 't> {
         let whole = Reading::whole(self.request.reading.default);
         match circuit_of(self.alloc, self.netlist.bytes, &whole) {
             Ok(circuit) => no_output(text, &circuit, name),
+            Err(SourceFault::Loop(net)) => on_loop(text, self.netlist.file, &net),
             Err(_) => Ok(()),
         }
     }

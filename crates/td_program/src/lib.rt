@@ -20,13 +20,13 @@ mod message;
 mod names;
 mod outputs;
 mod print;
-mod program;
 mod progress;
 mod refusals;
+mod shell;
 #[cfg(test)]
 mod tests;
 mod usage;
 mod vectors;
 
 pub use advice::{Advice, NoAdvice, System};
-pub use program::{carry_out, program, refuse_words, run, run_plain};
+pub use shell::{carry_out, program, refuse_words, run, run_plain};
