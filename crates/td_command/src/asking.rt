@@ -352,11 +352,11 @@ fn untaken<'a>(alloc: Global, words: &Words<'_>) -> Result<Option<Request<'a>>, 
 }
 
 /// What the command that was entered is asked, if it takes what is said of inputs by name.
-fn entered<'a>(
+fn entered<'w, 'x>(
     alloc: Global,
-    matches: &ArgMatches<'a>,
-    words: &'a Words<'a>,
-) -> Result<Option<Request<'a>>, Error>
+    matches: &ArgMatches<'w>,
+    words: &'w Words<'x>,
+) -> Result<Option<Request<'w>>, Error>
     ensures asked { IfOk result (λ asked. IfSome asked (EntersRequest (subcommand_rows_of matches.now) words.entry.now.named.items)) }
     ensures fault { IfErr result (HasFault words.entry.now) }
 {
@@ -377,7 +377,10 @@ fn entered<'a>(
 /// # Errors
 ///
 /// A fault of the words, or help. None where they ask for no command.
-pub fn asked<'a>(alloc: Global, words: &'a Words<'a>) -> Result<Option<Request<'a>>, Error>
+pub fn asked<'w, 'x>(
+    alloc: Global,
+    words: &'w Words<'x>,
+) -> Result<Option<Request<'w>>, Error>
     ensures asked { IfOk result (λ asked. IfSome asked (AskFor words.entry.now)) }
     ensures fault { IfErr result (HasFault words.entry.now) }
 {

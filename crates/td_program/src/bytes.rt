@@ -7,28 +7,14 @@ use crate::conflict::conflict_of;
 use crate::fault::{Fault, unread};
 use crate::outputs::overwriting;
 use std::alloc::Global;
-use td_answer::Texts;
 use td_files::{Files, ReadFault};
 use td_request::{Command, Request};
 
 /// The bytes of the files that a request names.
 #[derive(Drop)]
 pub(crate) struct Bytes {
-    netlist: Vec<u8>,
-    certificates: Vec<Vec<u8>>,
-}
-
-impl Bytes {
-    /// The texts of the files.
-    pub(crate) fn texts(&self) -> Texts<'_, '_>
-        ensures netlist { result.netlist.now ≡ self.now.netlist.items }
-        ensures certificates { result.certificates.now ≡ self.now.certificates.items }
-    {
-        Texts {
-            netlist: &self.netlist,
-            certificates: &self.certificates,
-        }
-    }
+    pub(crate) netlist: Vec<u8>,
+    pub(crate) certificates: Vec<Vec<u8>>,
 }
 
 /// The bytes of a file.

@@ -12,7 +12,7 @@ use crate::refusals::{
 };
 use crate::vectors::{about_vector, no_output};
 use std::alloc::{AllocError, Global};
-use td_answer::{Outcome, Refusal, Status, Texts};
+use td_answer::{Outcome, Refusal, Status};
 use td_checker::{CheckFault, Verdict};
 use td_lines::Text;
 use td_question::QuestionFault;
@@ -84,12 +84,12 @@ struct Case<'r, 'w, 't> {
 pub(crate) fn refusal_hint(
     alloc: Global,
     request: &Request<'_>,
-    texts: &Texts<'_, '_>,
+    netlist: &[u8],
     refusal: &Refusal<'_, '_>,
 ) -> Result<Text, AllocError> {
     let netlist = NetlistText {
         file: request.file,
-        bytes: texts.netlist,
+        bytes: netlist,
     };
     let case = Case {
         alloc,

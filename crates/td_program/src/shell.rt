@@ -3,7 +3,7 @@
 ghost use Rattle.std.specs.Prelude.{◌≡◌, ◌⊎◌, true, map, IfOk, IfErr, IfSome, IfNone, OnOk, OnErr};
 ghost use Rattle.td_command.specs.Parting.{AreParted};
 ghost use Rattle.td_command.specs.Saying.{AskFor};
-ghost use Rattle.td_answer.specs.Outcomes.{IsPlain};
+ghost use Rattle.td_answer.specs.Outcomes.{IsPlain, SaysTrue};
 ghost use Rattle.td_answer.specs.Writing.{CanBeWritten};
 ghost use Rattle.td_answer.specs.declared.status.Status.TheVariants as ending;
 ghost use Rattle.td_program.specs.Carrying.{Carries, Prints, IsSilent, is_refusal, fault_status};
@@ -144,9 +144,9 @@ fn words_of<'w, S: AsStr, E: Sink>(
 
 /// What the words ask for, or how the program ends once it has told what is wrong with them, or
 /// help.
-fn request_of<'w, O: Sink, E: Sink>(
+fn request_of<'w, 'x, O: Sink, E: Sink>(
     alloc: Global,
-    words: &'w Words<'w>,
+    words: &'w Words<'x>,
     out: &mut O,
     err: &mut E,
 ) -> Result<Request<'w>, Status>
@@ -178,15 +178,34 @@ pub fn carry_out<R: Threads + Wait + Clock + Sync, F: Files, O: Sink, E: Sink, A
         Ok(bytes) => bytes,
         Err(fault) => return stop(alloc, request, fault, err, advice),
     };
-    let texts = bytes.texts();
+    match judged(rt, alloc, request, &bytes.netlist, &bytes.certificates, err) {
+        Ok(outcome) => finish(alloc, request, &outcome, files, out, err, advice),
+        Err(refusal) => refuse(alloc, request, &bytes.netlist, &refusal, err, advice),
+    }
+}
+
+/// The outcome of a request on the texts of its files. Lines on standard error say how far a search
+/// has come, where that is asked for.
+fn judged<'n, 'c, 'w, R: Threads + Wait + Clock + Sync, E: Sink>(
+    rt: &R,
+    alloc: Global,
+    request: &Request<'w>,
+    netlist: &'n [u8],
+    certificates: &'c [Vec<u8>],
+    err: &mut E,
+) -> Result<Outcome, Refusal<'n, 'w>>
+    ensures says { IfOk result (SaysTrue request.now.command netlist.entry.now request.now.reading certificates.entry.now) }
+    ensures written { IfOk result CanBeWritten }
+{
+    let texts = Texts {
+        netlist,
+        certificates,
+    };
     let mut watch = ProgressLines::new(rt, alloc, shows_progress(request), err);
-    let judged = answer(rt, alloc, request, &texts, &mut watch);
+    let outcome = answer(rt, alloc, request, &texts, &mut watch);
     let ProgressLines { err, .. } = watch;
     take_back(err);
-    match judged {
-        Ok(outcome) => finish(alloc, request, &outcome, files, out, err, advice),
-        Err(refusal) => refuse(alloc, request, &texts, &refusal, err, advice),
-    }
+    outcome
 }
 
 /// Whether a request asks for the progress of its search.
@@ -212,11 +231,28 @@ fn carry_out_plain<F: Files, O: Sink, E: Sink>(
         Ok(bytes) => bytes,
         Err(fault) => return tell_fault(alloc, fault, err),
     };
-    let texts = bytes.texts();
-    match answer_plain(alloc, request, &texts) {
+    match judged_plain(alloc, request, &bytes.netlist, &bytes.certificates) {
         Ok(outcome) => finish(alloc, request, &outcome, files, out, err, &NoAdvice),
         Err(refusal) => tell_refusal(alloc, &refusal, err),
     }
+}
+
+/// The outcome of a request that is no search.
+fn judged_plain<'n, 'c, 'w>(
+    alloc: Global,
+    request: &Request<'w>,
+    netlist: &'n [u8],
+    certificates: &'c [Vec<u8>],
+) -> Result<Outcome, Refusal<'n, 'w>>
+    requires { IsPlain request.now.command }
+    ensures says { IfOk result (SaysTrue request.now.command netlist.entry.now request.now.reading certificates.entry.now) }
+    ensures written { IfOk result CanBeWritten }
+{
+    let texts = Texts {
+        netlist,
+        certificates,
+    };
+    answer_plain(alloc, request, &texts)
 }
 
 /// Hands an outcome over. Answers how the program ends.
@@ -265,7 +301,7 @@ fn stop<E: Sink, A: Advice>(
 fn refuse<E: Sink, A: Advice>(
     alloc: Global,
     request: &Request<'_>,
-    texts: &Texts<'_, '_>,
+    netlist: &[u8],
     refusal: &Refusal<'_, '_>,
     err: &mut E,
     advice: &A,
@@ -277,7 +313,7 @@ fn refuse<E: Sink, A: Advice>(
     }
     let status = tell_refusal(alloc, refusal, err);
     if advice.is_wanted(request.hints) {
-        advise(refusal_hint(alloc, request, texts, refusal), err);
+        advise(refusal_hint(alloc, request, netlist, refusal), err);
     }
     status
 }
