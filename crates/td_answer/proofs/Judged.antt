@@ -22,6 +22,7 @@ claim_true setting c is = go (c.time == c.high) refl
   where
     ordered : c.time ≤ c.high
     ordered = is.bounded c.pair c.time is.admitted is.reached
+
     go : (same : Bool) → (c.time == c.high) ≡ same
         → IsTrueClaim setting c.question.admit (if same then line.Accepted c.time else line.AcceptedBetween c.time c.high)
     go true equal = record {

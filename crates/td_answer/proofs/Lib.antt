@@ -7,3 +7,4 @@ pub mod Searched
 pub mod Listing
 pub mod Zips
 pub mod Whole
+pub mod Cuts

@@ -26,10 +26,14 @@ use Rattle.td_checker.specs.declared.verdict.CheckFault.TheVariants as check
 use Rattle.td_checker.specs.declared.verdict.Verdict.TheVariants.{Accepted}
 use Rattle.td_checker.specs.Checks.{IsCheckFault, HaveVerdict}
 use Rattle.td_join.specs.Joining.{IsJoined}
+use Rattle.td_join.specs.Faults.{IsJoinFault}
+use Rattle.td_join.specs.declared.fault.JoinFault.{JoinFault}
 use Rattle.td_answer.specs.declared.refusal.Refusal.{Refusal}
 use Rattle.td_answer.specs.declared.refusal.Refusal.TheVariants as refusal
-use Rattle.td_answer.specs.Joins.{TellsPart, TellsNoPart, AreParts}
-use Rattle.td_answer.specs.Unjoined.{IsOfPart, unjudged}
+use Rattle.td_request.specs.declared.request.Join.{Join}
+use Rattle.td_question.specs.Asking.{IsPinned}
+use Rattle.td_answer.specs.Joins.{TellsPart, TellsNoPart, AreParts, IsToJoin, IsUnjoinedFor, whole_pins}
+use Rattle.td_answer.specs.Unjoined.{IsOfPart, IsOfUnjoined, unjudged}
 use Rattle.td_answer.proofs.Zips.{zip_second}
 
 -- ---- a part
@@ -88,3 +92,16 @@ module _ (text : List ℕ) (reading : Reading) (netlist : Netlist) (circuit : Ha
       let each = parts_accepted names texts parts (subst (λ (b : Bool). AreParts text reading netlist b names texts parts) yes are) in
       let is = accepted netlist each in
       accepted_is_worst netlist whole formed circuit.acyclic (fits whole spelled is) is joined.whole_closed
+
+-- what is to be joined
+pub to_join : (text : List ℕ) (reading : Reading) (asked : Join) (texts : List (List ℕ)) (netlist : Netlist) (parts : List Certificate) (given : Option (List Trit))
+    → IsPinned text reading asked.inputs netlist given → AreParts text reading netlist asked.check asked.parts texts parts
+    → IsToJoin text reading asked texts netlist parts (whole_pins given parts)
+to_join text reading asked texts netlist parts given pinned are = record { given = given; pinned = pinned; are_parts = are; pins_are = refl }
+
+-- why the parts aren't joined
+pub unjoined_for : (names : List (List ℕ)) (parts : List Certificate) (pins : List Trit) (fault : JoinFault ℕ) (reason : Refusal)
+    → IsJoinFault parts pins fault → IsOfUnjoined names fault reason → IsUnjoinedFor names parts pins reason
+unjoined_for names parts pins fault reason is (inl memory) = subst (λ (r : Refusal). IsUnjoinedFor names parts pins r) (sym memory) tt
+unjoined_for names parts pins fault reason is (inr told) =
+    subst (λ (r : Refusal). IsUnjoinedFor names parts pins r) (sym told.is) (fault, told.reported, is, told.named)

@@ -1,5 +1,5 @@
 -- What is true of the outcome of a request, by its command.
-use Rattle.std.specs.Prelude.{◌≡◌, ℕ, Bool, true, false, List, [], ◌∷◌, None}
+use Rattle.std.specs.Prelude.{◌≡◌, ℕ, Bool, true, false, List, Option, Some, None, slice_get}
 use Rattle.std.specs.Global.{Vec}
 use Rattle.td_reading.specs.declared.reading.Reading.{Reading}
 use Rattle.td_search.specs.Problems.{Problem}
@@ -28,14 +28,14 @@ use Rattle.td_answer.specs.declared.texts.Texts.{Texts}
 -- ---- checks
 
 -- the text of the certificate is there, and this is true of it
-abbrev pub IsCheckedTrue : List ℕ → Reading → List (Vec ℕ) → Outcome → Type 0
-IsCheckedTrue text reading [] outcome = ⊥
-IsCheckedTrue text reading (spelled ∷ others) outcome = IsTrueCheck text reading spelled.items outcome
+abbrev pub IsCheckedTrue : List ℕ → Reading → Option (Vec ℕ) → Outcome → Type 0
+IsCheckedTrue text reading None outcome = ⊥
+IsCheckedTrue text reading (Some spelled) outcome = IsTrueCheck text reading spelled.items outcome
 
 -- or it isn't there, and the refusal names its file
-abbrev pub IsRefusedChecked : List ℕ → Reading → Check → List (Vec ℕ) → Refusal → Type 0
-IsRefusedChecked text reading asked [] reason = reason ≡ refusal.Unread asked.certificate
-IsRefusedChecked text reading asked (spelled ∷ others) reason = IsRefusedCheck text reading spelled.items reason
+abbrev pub IsRefusedChecked : List ℕ → Reading → Check → Option (Vec ℕ) → Refusal → Type 0
+IsRefusedChecked text reading asked None reason = reason ≡ refusal.Unread asked.certificate
+IsRefusedChecked text reading asked (Some spelled) reason = IsRefusedCheck text reading spelled.items reason
 
 -- ---- searches
 
@@ -67,7 +67,7 @@ SaysTrue (command.Bound asked) text reading spelled outcome = IsTrueBound text r
 SaysTrue (command.Worst asked) text reading spelled outcome = IsSearchedTrue asked.each text reading asked outcome
 SaysTrue (command.Parts asked) text reading spelled outcome = IsTrueParts text reading asked outcome
 SaysTrue (command.Join asked) text reading spelled outcome = IsTrueJoin text reading asked (texts_of spelled) outcome
-SaysTrue (command.Check asked) text reading spelled outcome = IsCheckedTrue text reading spelled outcome
+SaysTrue (command.Check asked) text reading spelled outcome = IsCheckedTrue text reading (slice_get spelled 0) outcome
 SaysTrue command.Info text reading spelled outcome = IsTrueInfo text reading outcome
 
 -- the certificate
@@ -84,7 +84,7 @@ IsRefusedBy (command.Bound asked) text reading spelled reason = IsRefusedBound t
 IsRefusedBy (command.Worst asked) text reading spelled reason = IsRefusedSearched asked.each text reading asked reason
 IsRefusedBy (command.Parts asked) text reading spelled reason = IsRefusedParts text reading asked reason
 IsRefusedBy (command.Join asked) text reading spelled reason = IsRefusedJoin text reading asked (texts_of spelled) reason
-IsRefusedBy (command.Check asked) text reading spelled reason = IsRefusedChecked text reading asked spelled reason
+IsRefusedBy (command.Check asked) text reading spelled reason = IsRefusedChecked text reading asked (slice_get spelled 0) reason
 IsRefusedBy command.Info text reading spelled reason = IsRefusedInfo text reading reason
 
 abbrev pub IsTrueOutcome : Request → Texts → Outcome → Type 0

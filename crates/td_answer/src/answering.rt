@@ -1,6 +1,6 @@
 //! The outcome of a request.
 
-ghost use Rattle.std.specs.Prelude.{◌≡◌, ◌⊎◌, IfOk, IfErr, None as Nothing};
+ghost use Rattle.std.specs.Prelude.{◌≡◌, ◌⊎◌, slice_get, IfOk, IfErr, None as Nothing};
 ghost use Rattle.td_search.specs.Problems.{Problem};
 ghost use Rattle.td_question.specs.Asking.{IsAsked};
 ghost use Rattle.td_answer.specs.Outcomes.{IsPlain, IsCheckedTrue, IsRefusedChecked, IsSearchedTrue, IsCertifiedSearch, IsRefusedSearched, IsSearched, IsTrueOutcome, HasCertificate, IsRefused};
@@ -105,9 +105,9 @@ fn checked<'n, 'w>(
     asked: &Check<'w>,
     certificates: &[Vec<u8>],
 ) -> Result<Outcome, Refusal<'n, 'w>>
-    ensures says { IfOk result (IsCheckedTrue text.now reading.now certificates.now) }
+    ensures says { IfOk result (IsCheckedTrue text.now reading.now (slice_get certificates.now 0)) }
     ensures certified { IfOk result (λ outcome. outcome.certificate ≡ Nothing) }
-    ensures refusal { IfErr result (IsRefusedChecked text.now reading.now asked.now certificates.now) }
+    ensures refusal { IfErr result (IsRefusedChecked text.now reading.now asked.now (slice_get certificates.now 0)) }
 {
     match certificates.first() {
         Some(certificate) => verdict_on(alloc, text, reading, certificate),

@@ -92,11 +92,7 @@ pub(crate) fn changes_line(
 }
 
 /// Why the output that changes last in a run does so when it does.
-pub(crate) fn latest_line(
-    alloc: Global,
-    circuit: &Circuit,
-    run: &Run,
-) -> Result<Line, AllocError>
+pub(crate) fn latest_line(alloc: Global, circuit: &Circuit, run: &Run) -> Result<Line, AllocError>
     requires run { IsRunFor circuit.now run.now }
     ensures { IfOk result (TellsLatest (setting circuit.now) (waves_in circuit.now run.now)) }
 {

@@ -194,6 +194,12 @@ pub(crate) fn bounds<'n, 'w>(
     ensures refusal { IfErr result (IsRefusedBound text.now reading.now asked.now) }
 {
     let about = cube_of(alloc, text, reading, &asked.inputs)?;
-    let report = report_of(alloc, &about.circuit, &about.cube, asked.edges, asked.outputs)?;
+    let report = report_of(
+        alloc,
+        &about.circuit,
+        &about.cube,
+        asked.edges,
+        asked.outputs,
+    )?;
     Ok(Outcome::done(report))
 }

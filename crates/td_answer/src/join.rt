@@ -143,6 +143,8 @@ pub(crate) fn join<'n, 'w>(
     ensures refusal { IfErr result (IsRefusedJoin text.now reading.now asked.now (texts_of certificates.now)) }
 {
     let pinned = pins_of(alloc, text, reading, &asked.inputs)?;
+    // For the prover: this call says that the netlist is well-formed.
+    let _gates = pinned.circuit.gates();
     let names = asked.parts.names();
     let parts = parts_in(
         alloc,

@@ -168,10 +168,27 @@ fn joined(alloc: Global, names: &[&'static str], check: bool) -> Result<Command<
 fn searches(rt: HostRuntime) -> Result<(), Fail> {
     let report =
         b"unit 1 ns\ndefaulted 0\nexact 5\nfrom 01\nto 00\nnodes 9\noutput z\nchange 0 b 1 0 input\nchange 5 z 1 0 xor 5\n";
-    assert!(rt; says(&rt, rt.alloc(), search(None, 1000, BESIDE, false), &[], Status::Done, report)?);
-    let short =
-        b"unit 1 ns\ndefaulted 0\nbetween 3 5\ncause budget\nfrom 00\nto 11\nnodes 0\n";
-    assert!(rt; says(&rt, rt.alloc(), search(None, 0, ALONE, false), &[], Status::Between, short)?);
+    assert!(rt;
+        says(
+            &rt,
+            rt.alloc(),
+            search(None, 1000, BESIDE, false),
+            &[],
+            Status::Done,
+            report
+        )?
+    );
+    let short = b"unit 1 ns\ndefaulted 0\nbetween 3 5\ncause budget\nfrom 00\nto 11\nnodes 0\n";
+    assert!(rt;
+        says(
+            &rt,
+            rt.alloc(),
+            search(None, 0, ALONE, false),
+            &[],
+            Status::Between,
+            short
+        )?
+    );
     let word = b"tdelay: bad vector first\n";
     let wrong = search(Some("0"), 0, ALONE, false);
     assert!(rt; says(&rt, rt.alloc(), wrong, &[], Status::BadCommand, word)?);
@@ -182,10 +199,27 @@ fn searches(rt: HostRuntime) -> Result<(), Fail> {
 #[test]
 fn searches_each(rt: HostRuntime) -> Result<(), Fail> {
     let report = b"unit 1 ns\ndefaulted 0\neach y exact 3 edges 3\neach z exact 5 edges 5\n";
-    assert!(rt; says(&rt, rt.alloc(), search(None, 1000, ALONE, true), &[], Status::Done, report)?);
-    let short =
-        b"unit 1 ns\ndefaulted 0\neach y between 3 3 edges 3\neach z between 0 5 edges 5\n";
-    assert!(rt; says(&rt, rt.alloc(), search(None, 0, ALONE, true), &[], Status::Between, short)?);
+    assert!(rt;
+        says(
+            &rt,
+            rt.alloc(),
+            search(None, 1000, ALONE, true),
+            &[],
+            Status::Done,
+            report
+        )?
+    );
+    let short = b"unit 1 ns\ndefaulted 0\neach y between 3 3 edges 3\neach z between 0 5 edges 5\n";
+    assert!(rt;
+        says(
+            &rt,
+            rt.alloc(),
+            search(None, 0, ALONE, true),
+            &[],
+            Status::Between,
+            short
+        )?
+    );
     Ok(())
 }
 
@@ -256,7 +290,16 @@ fn runs(rt: HostRuntime) -> Result<(), Fail> {
         inputs: pinned(None),
         output: Some("y"),
     });
-    assert!(rt; says(&rt, alloc, other, &[], Status::Done, b"unit 1 ns\ndefaulted 0\nlast y never\n")?);
+    assert!(rt;
+        says(
+            &rt,
+            alloc,
+            other,
+            &[],
+            Status::Done,
+            b"unit 1 ns\ndefaulted 0\nlast y never\n"
+        )?
+    );
     let none = Command::Path(Path {
         from: "00",
         to: "01",

@@ -71,11 +71,7 @@ fn clash(out: &mut Text, topic: Topic, word: &[u8], input: &[u8]) -> Result<(), 
 }
 
 /// What is wrong with a word by name, for inputs that are called so.
-pub(crate) fn name(
-    out: &mut Text,
-    fault: WordFault<'_>,
-    labels: &[Label],
-) -> Result<(), AllocError>
+pub(crate) fn name(out: &mut Text, fault: WordFault<'_>, labels: &[Label]) -> Result<(), AllocError>
     ensures { OnOk result (out.new ≡ out.old ++ word_text (fault_in fault.entry) (map label_in labels.now)) }
 {
     match fault {
