@@ -2,13 +2,13 @@
 """hall.py [--main CRATE] PROGRAM: the measures of the program's part of the library.
 
 Counts what can be counted in the sources: lines of the program's crates (src, specs, proofs), all
-crates, calls from `main` to the search and from there to the step on a cube, calls of the parser of
-words, functions with six parameters and more. And measures PROGRAM: that it reads each file that it
-is given once (by pipes with names, which give their bytes once), the processor seconds of `--each`
-on 1,000 outputs, and of a refused check with hints beside one without.
+crates, the functions on the way from `main` to the search, both among them, those that call the
+parser of words, and functions with six parameters and more. And measures PROGRAM: that it reads
+each file once (it says the same of pipes with names, which give their bytes once), the processor
+seconds of `--each` on 1,000 outputs, and of a refused check with hints beside one without.
 
-CRATE is the program's, `tdelay` where it is left out. Prints a line for each measure, with its goal.
-The exit status is 1 where one is missed.
+CRATE is the program's, `tdelay` where it is left out. Prints a line for each measure, with its
+goal. The exit status is 1 where one is missed.
 """
 
 import argparse
@@ -32,10 +32,12 @@ import crates as listed  # noqa: E402
 CORE = set(
     "td_text td_gates td_nets td_reading td_syntax td_netlist td_circuit td_source td_info td_run "
     "td_path td_vcd td_domain td_arrival td_ternary td_edges td_stop td_event_sim td_lead td_climb "
-    "td_propagation td_spans td_refutation td_cdcl td_span_search td_refute td_certificate td_checker "
-    "td_join td_incumbent td_book td_search td_pool td_parts td_worst".split()
+    "td_propagation td_spans td_refutation td_cdcl td_span_search td_refute td_certificate "
+    "td_checker td_join td_incumbent td_book td_search td_pool td_parts td_worst".split()
 )
-SEARCH, STEP = ("td_worst", "worst"), ("td_search", "close_leaf")
+SEARCH = ("td_worst", "worst")
+# A call of a function, by its crate where that stands before it.
+CALL = re.compile(r"(?:(td_\w+)::)?(?<![\w.])(\w+)(?:::<[^(]*>)?\(")
 
 
 def crate_files(crate, part):
@@ -64,7 +66,8 @@ class Function:
     """A function in a crate's sources: its body, and what its file imports."""
 
     def __init__(self, crate, name, body, imports, count):
-        self.crate, self.name, self.body, self.imports, self.count = crate, name, body, imports, count
+        self.crate, self.name, self.body = crate, name, body
+        self.imports, self.count = imports, count
 
 
 def imports_of(text):
@@ -107,11 +110,11 @@ def calls_between(functions, begin, end):
         if place == end:
             return reached[place]
         for function in by_place[place]:
-            for crate, name in re.findall(r"(?:(td_\w+)::)?(?<![\w.])(\w+)(?:::<[^(]*>)?\(", function.body):
-                for other in {(crate or function.imports.get(name) or function.crate, name)}:
-                    if other in by_place and other not in reached:
-                        reached[other] = reached[place] + 1
-                        queue.append(other)
+            for crate, name in CALL.findall(function.body):
+                other = crate or function.imports.get(name) or function.crate, name
+                if other in by_place and other not in reached:
+                    reached[other] = reached[place] + 1
+                    queue.append(other)
     return None
 
 
@@ -124,22 +127,24 @@ class Measures:
     def tell(self, what, value, most):
         fits = value is not None and value <= most
         self.missed += not fits
-        shown = "?" if value is None else f"{value:.2f}" if isinstance(value, float) else f"{value:,}"
+        shown = f"{value:.2f}" if isinstance(value, float) else f"{value or 0:,}"
         print(f"{'  ' if fits else '! '}{what}: {shown}, at most {most:,}")
 
 
-def count_sources(told, main):
+def count_sources(measures, main):
     uses = listed.uses_of(places.TOP)
     crates = program_crates(uses, main)
-    told.tell(f"lines of the {len(crates)} crates of the program", sum(map(lines_of, crates)), 15000)
-    told.tell("crates", len(uses), 32)
+    lines = sum(map(lines_of, crates))
+    measures.tell(f"lines of the {len(crates)} crates of the program", lines, 15000)
+    measures.tell("crates", len(uses), 32)
     functions = [it for crate in uses if not crate.endswith("_rows") for it in functions_of(crate)]
-    told.tell("functions from main to the search", calls_between(functions, (main, "main"), SEARCH), 6)
+    way = calls_between(functions, (main, "main"), SEARCH)
+    measures.tell("functions from main to the search", way, 6)
     parses = [it for it in functions if it.crate in crates and "try_get_matches_from(" in it.body]
     names = ", ".join(f"{it.crate}::{it.name}" for it in parses)
-    told.tell(f"functions that call the parser of words ({names})", len(parses), 2)
+    measures.tell(f"functions that call the parser of words ({names})", len(parses), 2)
     long = [it for it in functions if it.count >= 6]
-    told.tell("functions with six parameters and more", len(long), 40)
+    measures.tell("functions with six parameters and more", len(long), 40)
 
 
 def seconds_of(words, folder, runs=3):
@@ -197,7 +202,7 @@ BUS = b"module t (input [1:0] v, input a, output y);\nand #1 (y, v[1], v[0], a);
 TWO = b"module t (a, y);\ninput a;\noutput y;\nbuf #1 g(y,a);\nbuf #1 h(y,a);\nendmodule\n"
 
 
-def count_readings(told, program, folder):
+def count_readings(measures, program, folder):
     """Calls that had reasons to read a file twice: names of inputs, hints, outputs in turn."""
     certificate = os.path.join(folder, "kept")
     with open(os.path.join(folder, "bus.v"), "wb") as file:
@@ -215,28 +220,25 @@ def count_readings(told, program, folder):
         (["join", "n", "c", "--check", "--hints"], {"n": BUS, "c": spelled}),
     ]
     again = sum(is_read_again([program, *words], given) for words, given in calls)
-    told.tell(f"calls of {len(calls)} that read a file twice", again, 0)
+    measures.tell(f"calls of {len(calls)} that read a file twice", again, 0)
 
 
-def measure_program(told, program):
+def measure_program(measures, program):
     with tempfile.TemporaryDirectory() as folder:
-        count_readings(told, program, folder)
+        count_readings(measures, program, folder)
         with open(os.path.join(folder, "wide.v"), "w", encoding="utf-8") as file:
             file.write(wide(1000))
-        told.tell("seconds of --each on 1,000 outputs", seconds_of([program, "worst", "wide.v", "--each"], folder), 0.2)
-        mult = places.example("mult_8.v")
-        words = [program, "worst", mult, "--budget", "200000", "--cert", "c", "-q"]
-        subprocess.run(words, cwd=folder, capture_output=True, timeout=600)
-        path = os.path.join(folder, "c")
-        if not os.path.exists(path):
-            subprocess.run([program, "worst", places.example("parity_32.v"), "--cert", "c", "-q"], cwd=folder)
-            mult = places.example("parity_32.v")
-        lines = text_of(path).splitlines(keepends=True)
+        each = seconds_of([program, "worst", "wide.v", "--each"], folder)
+        measures.tell("seconds of --each on 1,000 outputs", each, 0.2)
+        netlist = places.example("parity_32.v")
+        subprocess.run([program, "worst", netlist, "--cert", "c", "-q"], cwd=folder)
+        lines = text_of(os.path.join(folder, "c")).splitlines(keepends=True)
         with open(os.path.join(folder, "bad"), "w", encoding="utf-8") as file:
             file.writelines([*lines[:-1], "x\n"])
-        checked = [program, "check", mult, "bad"]
+        checked = [program, "check", netlist, "bad"]
         plain, hinted = seconds_of(checked, folder, 5), seconds_of([*checked, "--hints"], folder, 5)
-        told.tell("a refused check with hints, beside without", hinted / max(plain, 0.001), 1.05)
+        ratio = hinted / max(plain, 0.001)
+        measures.tell("a refused check with hints, beside without", ratio, 1.05)
 
 
 def main(words):
@@ -244,12 +246,12 @@ def main(words):
     asked.add_argument("--main", default="tdelay")
     asked.add_argument("program")
     asked = asked.parse_args(words)
-    told = Measures()
+    measures = Measures()
     began = time.monotonic()
-    count_sources(told, asked.main)
-    measure_program(told, os.path.abspath(asked.program))
-    print(f"{told.missed} missed, {time.monotonic() - began:.0f} s")
-    return 1 if told.missed else 0
+    count_sources(measures, asked.main)
+    measure_program(measures, os.path.abspath(asked.program))
+    print(f"{measures.missed} missed, {time.monotonic() - began:.0f} s")
+    return 1 if measures.missed else 0
 
 
 if __name__ == "__main__":

@@ -9,8 +9,8 @@ go-between does what OLD did. So each call of the worked rows (ROWS.PY is their 
 transcripts is tried, and random calls on small netlists. Calls whose answer isn't the same each
 time, as with `--progress` or several `--workers`, are counted and not compared.
 
-Prints the calls that differ, and as its last line how many are the same, differ, are refused by both
-for another of several faults, and weren't compared. The exit status is 1 where some differ.
+Prints the calls that differ, and as its last line how many are the same, differ, are refused by
+both for another of several faults, and weren't compared. The exit status is 1 where some differ.
 """
 
 import argparse
@@ -114,15 +114,16 @@ def write_go_between(room, old, new, log):
     words = ", ".join(repr(it) for it in (sys.executable, os.path.abspath(__file__), "--between"))
     with open(path, "w", encoding="utf-8") as file:
         file.write(f"#!{sys.executable}\nimport os, sys\n")
-        file.write(f"os.execv({sys.executable!r}, [{words}, {old!r}, {new!r}, {log!r}, *sys.argv[1:]])\n")
+        words = f"{words}, {old!r}, {new!r}, {log!r}, *sys.argv[1:]"
+        file.write(f"os.execv({sys.executable!r}, [{words}])\n")
     os.chmod(path, 0o755)
     return path
 
 
 NETS = {
     "inv.v": "module t(a, y);\ninput a;\noutput y;\nnot #(2,3) g(y,a);\nendmodule\n",
-    "bus.v": "module t (input [1:0] \\a+b , v, output \\y!z , q);\nand #1 (\\y!z , \\a+b [1], \\a+b [0]);\n"
-    "xor #(2,1) (q, v, \\y!z );\nendmodule\n",
+    "bus.v": "module t (input [1:0] \\a+b , v, output \\y!z , q);\n"
+    "and #1 (\\y!z , \\a+b [1], \\a+b [0]);\nxor #(2,1) (q, v, \\y!z );\nendmodule\n",
     "none.v": "module t (y); output y; and #1 g(y,1'b1,1'b1); endmodule\n",
     "loop.v": "module t (a, q);\ninput a;\noutput q;\nnand #1 g(q,a,q);\nendmodule\n",
     "two.v": "module t (a, y);\ninput a;\noutput y;\nbuf #1 g(y,a);\nbuf #1 h(y,a);\nendmodule\n",
@@ -133,7 +134,7 @@ NETS = {
 
 
 class Calls:
-    """Random calls, by the numbers of inputs and the names of inputs and outputs of each netlist."""
+    """Random calls, by the names of the inputs and outputs of each netlist."""
 
     def __init__(self, chance, files, old):
         self.chance, self.files = chance, files
@@ -142,8 +143,8 @@ class Calls:
     @staticmethod
     def shape(old, text):
         said = subprocess.run([old, "info", "-"], input=text, capture_output=True).stdout.decode()
-        inputs = [it[2] for it in map(lambda line: line.split(" ", 2), said.splitlines()) if it[0] == "input"]
-        outputs = [it[2] for it in map(lambda line: line.split(" ", 2), said.splitlines()) if it[0] == "output"]
+        fields = [line.split(" ", 2) for line in said.splitlines()]
+        inputs, outputs = ([it[2] for it in fields if it[0] == key] for key in ("input", "output"))
         return inputs, outputs
 
     def word(self, letters, count):
@@ -205,7 +206,7 @@ class Calls:
         name = chance.choice(sorted(self.files))
         count = len(self.shapes[name][0])
         pair = [self.word("01x" if not pick(3) else "01", count) for _ in range(2)]
-        command = chance.choice(["sim", "path", "bound", "worst", "worst", "worst", "parts", "check", "join", "info"])
+        command = chance.choice("sim path bound worst worst worst parts check join info".split())
         file = name if pick(20) else chance.choice(["absent.v", "-", "."])
         words = [command, file]
         if command in ("sim", "path"):
@@ -215,18 +216,20 @@ class Calls:
         if command == "path" and not pick(3):
             words += ["--output", self.name(self.shapes[name][1])]
         if command == "bound":
-            words += self.inputs(name, False) + self.reading(name) + ["--edges"] * pick(2) + ["--outputs"] * pick(2)
+            words += self.inputs(name, False) + self.reading(name)
+            words += ["--edges"] * pick(2) + ["--outputs"] * pick(2)
         if command == "worst":
             words += self.inputs(name, True) + self.reading(name) + self.files_out()
             words += ["--budget", chance.choice(["0", "5", "60", "300"])]
-            words += [*(["--strategy", chance.choice(["least", "lead", "refute", "auto"])] * pick(2))]
-            words += ["--each"] * (not pick(5)) + ["--path"] * (not pick(4)) + ["--outputs"] * (not pick(4))
+            words += ["--strategy", chance.choice("least lead refute auto".split())] * pick(2)
+            words += ["--each"] * (not pick(5)) + ["--path"] * (not pick(4))
+            words += ["--outputs"] * (not pick(4))
         if command == "parts":
             words += self.inputs(name, True) + self.reading(name) + ["--parts", str(1 + pick(6))]
         if command == "check":
             words += [chance.choice(["c", "c", "c", "d", "absent", name])] + self.reading(name)
         if command == "join":
-            words += chance.choice([["c"], ["c", "d"], ["c", "absent"], ["d", name], ["absent", "c"]])
+            words += chance.choice(["c", "c d", "c absent", f"d {name}", "absent c"]).split()
             words += ["--cert", "w"] * pick(2) + ["--check"] * pick(2) + self.reading(name)
             words += self.inputs(name, False)[:4] if not pick(4) else []
         words += self.form()
@@ -242,8 +245,9 @@ def try_random(calls, count, old, new, log):
         for number in range(count):
             if number % 25 == 0:
                 for certificate in ("c", "d"):
-                    words = ["worst", calls.chance.choice(sorted(calls.files)), "--cert", certificate]
-                    subprocess.run([old, *words, "--budget", "2000"], cwd=folder, capture_output=True)
+                    words = ["worst", calls.chance.choice(sorted(calls.files)), "--cert"]
+                    words += [certificate, "--budget", "2000"]
+                    subprocess.run([old, *words], cwd=folder, capture_output=True)
             words = calls.call()
             text = calls.files[calls.chance.choice(sorted(calls.files))]
             given = text if "-" in words else b""
@@ -296,7 +300,8 @@ def main(words):
         log = os.path.join(room, "log")
         between = write_go_between(room, old, new, log)
         if asked.rows:
-            subprocess.run([sys.executable, asked.rows, between, "--stage", "15"], stdout=subprocess.DEVNULL)
+            words = [sys.executable, asked.rows, between, "--stage", "15"]
+            subprocess.run(words, stdout=subprocess.DEVNULL)
         if asked.transcripts:
             script = os.path.join(TOP, "checks", "transcripts.py")
             subprocess.run([sys.executable, script, between], stdout=subprocess.DEVNULL)

@@ -47,8 +47,8 @@ HasPlace asked = (goes_out (outputs_of asked).certificate || goes_out (outputs_o
 abbrev pub IsShown : Request → Outcome → Output → Output → Type 0
 IsShown request outcome old new = Sent old new (print_of request.form outcome.report) ⊎ (HasPlace request.command × (new ≡ old))
 
--- What went out of an outcome is a beginning of its print. Unless a device failed or memory ran out,
--- it is whole, and the program ends as the outcome says.
+-- What went out of an outcome is a beginning of its print. Unless a device failed or memory ran
+-- out, it is whole, and the program ends as the outcome says.
 pub record Prints (request : Request) (outcome : Outcome) (ending : Status) (old new : Output) : Type 0 where
   pub shown : SentFront old new (print_of request.form outcome.report)
   pub whole : (ending ≡ status.Device) ⊎ ((ending ≡ outcome.status) × IsShown request outcome old new)

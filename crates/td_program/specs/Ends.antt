@@ -28,8 +28,8 @@ pub record ShowsText (reported : ErrorKind) (ending : Status) (old new : Output)
 abbrev pub Shows : Words → Status → Output → Output → Type 0
 Shows words ending old new = (reported : ErrorKind) × IsReported words reported × ShowsText reported ending old new
 
--- What the program does: it carries out what the words ask for, shows help, or says on standard error
--- what is wrong.
+-- What the program does: it carries out what the words ask for, shows help, or says on standard
+-- error what is wrong.
 abbrev pub Ends : (List ℕ → List ℕ → Type 0) → List (List ℕ) → Status → Output → Output → Type 0
 Ends holds all ending old new =
     ((words : Words) × AreParted all words × (CarriesAsked holds words ending old new ⊎ Shows words ending old new)) ⊎ IsSilent ending old new

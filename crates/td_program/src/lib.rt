@@ -4,8 +4,8 @@
 //!           ──answer──▶ Outcome ──▶ report to out, certificate and waves to files
 //!                     ╲ Refusal ──▶ sentence and hint to err
 //!
-//! `program` is all that `main` calls. A fault of the shell (`Fault`) is one of files and streams; a
-//! refusal is one of what the texts say.
+//! `program` is all that `main` calls. A fault (`Fault`) is one of files and streams, a refusal one of
+//! what the texts say.
 #![tactic(auto)]
 
 mod advice;

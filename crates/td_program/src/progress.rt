@@ -71,7 +71,8 @@ fn push_figures(text: &mut Text, progress: Progress) -> Result<(), AllocError> {
     text.number_behind(b" open ", progress.open)
 }
 
-/// Appends how many seconds have passed, if they are known, and how many nodes were handled in each.
+/// Appends how many seconds have passed, if they are known, and how many nodes were handled in
+/// each.
 fn push_pace(text: &mut Text, nodes: u64, seconds: Option<u64>) -> Result<(), AllocError> {
     match seconds {
         Some(seconds) => {

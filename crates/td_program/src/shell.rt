@@ -142,8 +142,8 @@ fn words_of<'w, S: AsStr, E: Sink>(
     }
 }
 
-/// What the words ask for, or how the program ends once it has told what is wrong with them, or
-/// help.
+/// What the words ask for, or how the program ends once it has said what is wrong with them, or
+/// shown help.
 fn request_of<'w, 'x, O: Sink, E: Sink>(
     alloc: Global,
     words: &'w Words<'x>,
