@@ -32,7 +32,7 @@ told meant ending refuses (inr device) = subst (λ (s : Status). is_refusal s �
 
 pub device : (meant : Status) (ending : Status) → meant ≡ status.Device → (ending ≡ meant) ⊎ (ending ≡ status.Device) → ending ≡ status.Device
 device meant ending is (inl same) = same ∙ is
-device meant ending is (inr device) = device
+device meant ending is (inr so) = so
 
 -- an outcome that is true of what was read was printed
 pub carried : (holds : List ℕ → List ℕ → Type 0) (request : Request) (netlist : List ℕ) (certificates : List (Vec ℕ)) (outcome : Outcome) (ending : Status) (old new : Output)
