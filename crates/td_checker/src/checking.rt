@@ -4,7 +4,9 @@ ghost use Rattle.std.specs.Prelude.{◌≡◌, ◌≤◌, ◌<◌, ◌+◌, ◌*
 ghost use Rattle.td_nets.specs.WellFormed.{IsWellFormed};
 ghost use Rattle.td_circuit.specs.Numbering.{setting};
 ghost use Rattle.td_circuit.specs.Run.{IsDelayOfBits};
-ghost use Rattle.td_certificate.specs.Accepts.{lines_in, IsOfSize};
+ghost use Rattle.td_certificate.specs.Questions.{asking_of};
+ghost use Rattle.td_certificate.specs.Text.{level_byte};
+ghost use Rattle.td_certificate.specs.Accepts.{lines_in, form_order, is_before, are_fit, IsOfSize};
 ghost use Rattle.td_certificate.specs.Faults.{IsWithinLimit};
 ghost use Rattle.td_certificate.specs.Spelling.{head_lines, HasSpelling, Spells};
 ghost use Rattle.td_event_sim.specs.Scratch.{IsFor};
@@ -13,7 +15,7 @@ ghost use Rattle.td_checker.specs.Verdicts.{AreCompared, IsVerdictOn, IsVerdict,
 ghost use Rattle.td_checker.specs.declared.verdict.Verdict.{Verdict as Reported};
 ghost use Rattle.td_checker.specs.Checks.{HaveVerdict, IsCheckFault, IsCertificateFault, IsReportedAs, TellsTruth, told_terms};
 
-use crate::admitting::is_admitted;
+use crate::admitting::is_asked_about;
 use crate::judging::{Flaw, Judged, judge};
 use crate::verdict::{CheckFault, Checked, Verdict};
 use crate::walking::Walk;
@@ -21,9 +23,11 @@ use std::alloc::{AllocError, Global};
 use td_certificate::{CertFaultKind, Certificate, Terms, Version};
 use td_circuit::Circuit;
 use td_event_sim::{Scratch, delay_of};
-use td_gates::Delay;
+use td_gates::{Delay, Level};
 use td_reading::Reading;
+use td_refutation::NamedCondition;
 use td_source::{Source, source_of};
+use td_spans::Form;
 
 /// The first bad line of a tree: how many of its lines stand before it, and what is wrong with it.
 #[derive(Clone, Copy, Drop)]
@@ -44,18 +48,18 @@ fn first_bad(
     requires pins { length certificate.now.question.admit.pins ≡ 2 * length circuit.now.netlist.inputs }
     requires held { length certificate.now.question.admit.held ≡ length circuit.now.netlist.inputs }
     requires few { line_total (lines_in certificate.now) ≤ 268435456 }
-    ensures judged { IfOk result (λ found. AreJudged (setting circuit.now) certificate.now.question.admit certificate.now.high (lines_in certificate.now) found) }
+    ensures judged { IfOk result (λ found. AreJudged (setting circuit.now) (asking_of certificate.now.question) certificate.now.high (lines_in certificate.now) found) }
     ensures before { IfOk result (λ found. IfSome found (λ bad. bad.before < 268435456)) }
 {
-    let admit = certificate.question.admit();
-    let mut walk = Walk::new(alloc, admit.pins())?;
+    let question = &certificate.question;
+    let mut walk = Walk::new(alloc, question.admit().pins())?;
     let mut before = 0;
     for node in certificate.tree.nodes() {
         match judge(
             alloc,
             scratch,
             circuit,
-            admit,
+            question,
             certificate.high,
             &walk.cube,
             node,
@@ -102,12 +106,64 @@ fn reported_of(flaw: Flaw, line: u32) -> Verdict
     }
 }
 
-/// Whether a certificate is of a circuit with as many inputs and gates as this one.
+/// The number by which a condition stands among others on its net, by the bytes of its form.
+fn form_order(form: Form) -> u32
+    ensures { result ≡ form_order form }
+{
+    match form {
+        Form::Levels(first, second) => 256 * level_byte(first) + level_byte(second),
+        Form::Equal => 256 * 61 + 61,
+    }
+}
+
+fn level_byte(level: Level) -> u32
+    ensures is { result ≡ level_byte level }
+    ensures small { result ≤ 49 }
+{
+    match level {
+        Level::Zero => 48,
+        Level::One => 49,
+        Level::X => 46,
+    }
+}
+
+fn is_before(this: NamedCondition, that: NamedCondition) -> bool
+    ensures { result ≡ is_before this that }
+{
+    this.net < that.net || (this.net == that.net && form_order(this.form) < form_order(that.form))
+}
+
+/// Whether conditions rise, and each is on an input or a gate's output, where there are this many
+/// nets.
+fn are_fit(count: u64, keep: &[NamedCondition]) -> bool
+    ensures { result ≡ are_fit count keep.now }
+{
+    let mut rest = keep;
+    'conditions: loop {
+        match rest {
+            [] => return true,
+            [this] => return 2 <= this.net && this.net < count,
+            [this, that, ..] => {
+                if !(2 <= this.net && is_before(*this, *that)) {
+                    return false;
+                }
+                rest = &rest[1..];
+            }
+        }
+    }
+}
+
+/// Whether a certificate is of a circuit with as many inputs and gates as this one, and its
+/// conditions are on nets of it.
 pub fn is_of_size(circuit: &Circuit, certificate: &Certificate) -> bool
     ensures { IsTrue result ↔ IsOfSize circuit.now.netlist certificate.now }
 {
     circuit.input_count() == certificate.question.inputs()
         && circuit.gates().len() == certificate.gates as usize
+        && are_fit(
+            2 + certificate.question.inputs() as u64 + u64::from(certificate.gates),
+            certificate.question.keep(),
+        )
 }
 
 /// Whether the certificate's pair has its time.
@@ -138,7 +194,7 @@ fn verdict_of_lines(
     requires few { line_total (lines_in certificate.now) ≤ 268435456 }
     ensures { IfOk result (λ verdict. IsVerdictOn circuit.now.netlist certificate.now verdict) }
 {
-    if !is_admitted(alloc, certificate.question.admit(), &certificate.pair)? {
+    if !is_asked_about(alloc, circuit, &certificate.question, &certificate.pair)? {
         return Ok(Verdict::PairNotAdmitted);
     }
     let mut scratch = Scratch::new(alloc, circuit)?;
