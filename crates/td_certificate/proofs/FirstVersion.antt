@@ -10,7 +10,7 @@ use Rattle.td_domain.specs.Admits.{Admitted, flips_of, AreHeld, HasAdmitted}
 use Rattle.td_domain.proofs.Flips.{one_flip}
 use Rattle.td_gates.proofs.Places.{none-some}
 use Rattle.td_nets.specs.Netlist.{Netlist}
-use Rattle.td_refutation.specs.declared.asking.NamedCondition.{NamedCondition}
+use Rattle.td_refutation.specs.declared.conditions.NamedCondition.{NamedCondition}
 use Rattle.td_refutation.specs.Asking.{MayLie}
 use Rattle.td_certificate.specs.declared.question.Version.TheVariants.{First, Second, Third, Fourth}
 use Rattle.td_certificate.specs.Questions.{Terms, Question, inputs_of, is_free, holds_none, admits_all, is_at_once, version_by, version_of, keep_by, asking_of}

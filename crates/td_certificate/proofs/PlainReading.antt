@@ -12,7 +12,7 @@ use Rattle.td_certificate.specs.declared.fields.Reason.TheVariants as reason
 use Rattle.td_certificate.specs.Trees.{sides}
 use Rattle.td_spans.specs.declared.condition.Form.{Form}
 use Rattle.td_spans.specs.declared.condition.Form.TheVariants.{Levels, Equal}
-use Rattle.td_refutation.specs.declared.asking.NamedCondition.{NamedCondition}
+use Rattle.td_refutation.specs.declared.conditions.NamedCondition.{NamedCondition}
 use Rattle.td_certificate.specs.declared.conditions.Sign.{Sign}
 use Rattle.td_certificate.specs.declared.conditions.Sign.TheVariants as sign
 use Rattle.td_certificate.specs.Questions.{Terms, Question, all_at_once}

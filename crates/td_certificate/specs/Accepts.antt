@@ -13,7 +13,7 @@ use Rattle.td_domain.specs.Cubes.{IsIn, IsPoint}
 use Rattle.td_gates.specs.declared.primitives.Level.TheVariants.{X}
 use Rattle.td_spans.specs.declared.condition.Form.{Form}
 use Rattle.td_spans.specs.declared.condition.Form.TheVariants.{Levels, Equal}
-use Rattle.td_refutation.specs.declared.asking.NamedCondition.{NamedCondition}
+use Rattle.td_refutation.specs.declared.conditions.NamedCondition.{NamedCondition}
 use Rattle.td_refutation.specs.Asking.{Asking, IsAskedAbout, MayLie}
 use Rattle.td_domain.specs.Bounds.{IsBound}
 use Rattle.td_domain.specs.Together.{both_functions}

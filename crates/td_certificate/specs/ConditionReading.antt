@@ -4,7 +4,7 @@ use Rattle.td_gates.specs.declared.primitives.Level.{Level}
 use Rattle.td_gates.specs.declared.primitives.Level.TheVariants.{Zero, One, X}
 use Rattle.td_spans.specs.declared.condition.Form.{Form}
 use Rattle.td_spans.specs.declared.condition.Form.TheVariants.{Levels, Equal}
-use Rattle.td_refutation.specs.declared.asking.NamedCondition.{NamedCondition}
+use Rattle.td_refutation.specs.declared.conditions.NamedCondition.{NamedCondition}
 use Rattle.td_certificate.specs.declared.conditions.Sign.{Sign}
 use Rattle.td_certificate.specs.declared.conditions.Sign.TheVariants as sign
 use Rattle.td_certificate.specs.Steps.{greatest}

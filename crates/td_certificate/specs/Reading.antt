@@ -23,7 +23,7 @@ use Rattle.td_certificate.specs.Questions.{Terms, Question, is_free, holds_none,
 use Rattle.td_domain.specs.Cubes.{weave}
 use Rattle.td_certificate.specs.Text.{bit, trit, hold}
 use Rattle.td_certificate.specs.Spelling.{greatest, latest}
-use Rattle.td_refutation.specs.declared.asking.NamedCondition.{NamedCondition}
+use Rattle.td_refutation.specs.declared.conditions.NamedCondition.{NamedCondition}
 use Rattle.td_certificate.specs.StepReading.{numbers_at, refuted_at}
 use Rattle.td_certificate.specs.ConditionReading.{kept_at}
 pub use Rattle.td_certificate.specs.Fields.{Stop, Ends, Wrong, Reading, ◌>>=◌, Fails, Gives, byte_at, begins_with_zero, written_as, taken, char_at}

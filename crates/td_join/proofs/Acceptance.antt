@@ -17,7 +17,7 @@ use Rattle.td_certificate.specs.declared.certificate.Certificate.{Certificate}
 use Rattle.td_certificate.specs.Trees.{Tree, nodes_of, IsTree, lines_of}
 use Rattle.td_certificate.specs.Trees as trees
 use Rattle.td_certificate.specs.Walks.{Line, lines_from}
-use Rattle.td_refutation.specs.declared.asking.NamedCondition.{NamedCondition}
+use Rattle.td_refutation.specs.declared.conditions.NamedCondition.{NamedCondition}
 use Rattle.td_refutation.specs.Asking.{Asking, IsKept, IsAskedAbout}
 use Rattle.td_certificate.specs.Questions.{Terms, keep_by, asking_of}
 use Rattle.td_certificate.specs.Spelling.{inputs}

@@ -17,7 +17,7 @@ use Rattle.td_domain.proofs.Lists.{all_parts}
 use Rattle.td_certificate.specs.declared.tree.Node.{Node}
 use Rattle.td_certificate.specs.declared.question.Version.TheVariants.{First}
 use Rattle.td_certificate.specs.declared.certificate.Certificate.{Certificate}
-use Rattle.td_refutation.specs.declared.asking.NamedCondition.{NamedCondition}
+use Rattle.td_refutation.specs.declared.conditions.NamedCondition.{NamedCondition}
 use Rattle.td_refutation.specs.Asking.{Asking}
 use Rattle.td_certificate.specs.Questions.{Question, is_free, holds_none, version_of, keep_by, asking_of}
 use Rattle.td_gates.proofs.Places.{none-some}

@@ -1,15 +1,16 @@
 -- Asking: conditions on nets that numbers name are conditions on the nets of a circuit.
-use Rattle.std.proofs.Common.{◌≡◌, ℕ, zero, suc, ◌+◌, ◌-◌, ◌*◌, ◌<◌, ◌≤◌, Bool, true, false, List, [], ◌∷◌, ◌++◌, length, map, get_or, Option, Some, None, inl, inr, refl, ap, sym, ◌∙◌, subst, arith, length-append}
+use Rattle.std.proofs.Common.{◌≡◌, ℕ, zero, suc, ◌+◌, ◌-◌, ◌*◌, ◌<◌, ◌≤◌, Bool, true, false, List, [], ◌∷◌, ◌++◌, length, map, get_or, Option, Some, None, inl, inr, refl, ap, sym, ◌∙◌, subst, arith, length-append, append_assoc, take}
 use Rattle.std.specs.Prelude.{nat_lt, slice_get, option_map, if◌then◌else◌}
 use Rattle.std.proofs.lemmas.Bool.{cases_lt, lt-ltb, le-ltb}
-use Rattle.std.proofs.lemmas.List.{length-map}
+use Rattle.std.proofs.lemmas.List.{length-map, append-nil}
+use Rattle.std.proofs.lemmas.List.Concat.{flat_map-cons}
 use Rattle.std.proofs.lemmas.List.Elements.{All-contains}
 use Rattle.td_gates.specs.declared.primitives.Level.{Level}
 use Rattle.td_gates.specs.declared.primitives.Level.TheVariants.{Zero, One, X}
 use Rattle.td_gates.specs.declared.primitives.Kind.{Kind}
 use Rattle.td_gates.specs.Known.{Agrees}
 use Rattle.td_gates.specs.Table.{table, level_from}
-use Rattle.td_gates.proofs.Places.{none-some, some-same, slice_get-some, slice_get-within, slice_get-get, slice_get-map_some, slice_get-append_left, slice_get-append_right, slice_get-Contains, get_or-front, get_or-back}
+use Rattle.td_gates.proofs.Places.{none-some, some-same, slice_get-some, slice_get-within, slice_get-get, slice_get-map_some, slice_get-append_left, slice_get-append_right, slice_get-Contains, take_push, get_or-front, get_or-back}
 use Rattle.td_nets.specs.Netlist.{Name, Net, Low, High, Named, Gate, Netlist}
 use Rattle.td_circuit.specs.Numbering.{NumberedGate, Numbered, nets, first_output, IsNumbering}
 use Rattle.td_circuit.specs.Run.{IsSettled}
@@ -19,14 +20,16 @@ use Rattle.td_circuit.proofs.Nets.{length-nets, lower-at}
 use Rattle.td_circuit.proofs.Values.{value_at}
 use Rattle.td_run.specs.Settled.{levels_of, IsSettledUpTo}
 use Rattle.td_run.proofs.Settled.{is_settled}
+use Rattle.td_domain.specs.declared.cubes.Trit.{Trit}
+use Rattle.td_domain.specs.Cubes.{level_of_trit}
 use Rattle.td_domain.specs.Pairs.{Pair}
 use Rattle.td_spans.specs.declared.condition.Form.{Form}
 use Rattle.td_spans.specs.declared.condition.Form.TheVariants.{Levels, Equal}
 use Rattle.td_spans.specs.declared.condition.Condition.{Condition}
 use Rattle.td_spans.specs.Conditions as spans
 use Rattle.td_spans.specs.Lookups.{net_named, no_gate, IsDriven, driver}
-use Rattle.td_refutation.specs.declared.asking.NamedCondition.{NamedCondition}
-use Rattle.td_refutation.specs.Asking.{net_at, Keeps, IsKept, condition_on, conditions_in}
+use Rattle.td_refutation.specs.declared.conditions.NamedCondition.{NamedCondition}
+use Rattle.td_refutation.specs.Asking.{net_at, Keeps, IsKept, first_levels, second_levels, side, levels_by, condition_on, condition_in, conditions_in}
 
 -- ---- where a condition comes from
 
@@ -45,12 +48,13 @@ later circuit first keep c it = record { place = suc it.place; from = it.from; s
 pub comes_from : (circuit : Numbered) (keep : List NamedCondition) (i : ℕ) (c : Condition) → slice_get (conditions_in circuit keep) i ≡ Some c
     → ComesFrom circuit keep c
 comes_from circuit [] i c at = absurd (none-some c at)
-comes_from circuit (first ∷ keep) i c at = go (net_named circuit first.net) refl i at
+comes_from circuit (first ∷ keep) i c at =
+    go (λ i at. comes_from circuit keep i c at) (net_named circuit first.net) refl i (ap (λ cs. slice_get cs i) (sym (flat_map-cons (condition_in circuit) first keep)) ∙ at)
   where
-    go : (o : Option ℕ) → net_named circuit first.net ≡ o → (i : ℕ)
+    go : ((i : ℕ) → slice_get (conditions_in circuit keep) i ≡ Some c → ComesFrom circuit keep c) → (o : Option ℕ) → net_named circuit first.net ≡ o → (i : ℕ)
         → slice_get (condition_on first.form o ++ conditions_in circuit keep) i ≡ Some c → ComesFrom circuit (first ∷ keep) c
-    go None is i at = later circuit first keep c (comes_from circuit keep i c at)
-    go (Some net) is zero at =
+    go rest None is i at = later circuit first keep c (rest i at)
+    go rest (Some net) is zero at =
         let same : ◌≡◌ {A = Condition} (record { net = net; form = first.form }) c = some-same (record { net = net; form = first.form }) c at in
         record {
           place = 0;
@@ -59,7 +63,7 @@ comes_from circuit (first ∷ keep) i c at = go (net_named circuit first.net) re
           names = is ∙ ap (λ (it : Condition). Some it.net) same;
           form = sym (ap (λ (it : Condition). it.form) same);
         }
-    go (Some net) is (suc i) at = later circuit first keep c (comes_from circuit keep i c at)
+    go rest (Some net) is (suc i) at = later circuit first keep c (rest i at)
 
 -- ---- nets that numbers name
 
@@ -128,7 +132,7 @@ module _ (circuit : Numbered) (numbering : IsNumbering circuit) where
 -- ---- levels by numbers are levels by names
 
 -- the levels of nets from one number on
-bits_from : (ℕ → Bool) → ℕ → ℕ → List Level
+abbrev bits_from : (ℕ → Bool) → ℕ → ℕ → List Level
 bits_from bits start zero = []
 bits_from bits start (suc count) = level_from (bits start) ∷ bits_from bits (suc start) count
 
@@ -169,6 +173,7 @@ module _ (circuit : Numbered) (numbering : IsNumbering circuit) (vector : List B
       get_or-front (map level_from vector) outs i X (omega (arith, low, length-map vector level_from))
       ∙ slice_get-get (map level_from vector) i (level_from bit.0) X (slice_get-map_some level_from vector i bit.0 bit.1)
       ∙ ap level_from (sym (settled.inputs i bit.0 (omega (arith, low, count)) bit.1))
+      ∙ ap (λ n. level_from (bits n)) (let same : 2 + i ≡ suc (suc i) = omega arith in same)
 
   output_level : (i j : ℕ) → i ≡ length vector + j → j < length circuit.gates
       → get_or (map level_from vector ++ outs) i X ≡ level_from (bits (suc (suc i)))
@@ -201,7 +206,7 @@ module _ (circuit : Numbered) (numbering : IsNumbering circuit) (vector : List B
       ∙ ap (λ (g : NumberedGate). table g.kind (map (λ n. level_from (bits n)) g.inputs)) is
       ∙ ap (λ (ls : List Level). table gate.kind ls) (sym (levels_of-bits all bits gate.inputs level_at
       (λ i n there.
-      let below = All-contains (λ k. k < first_output circuit + j) gate.inputs (lower-at circuit numbering j gate at) (slice_get-Contains gate.inputs i n there) in
+      let below = All-contains (λ k. k < first_output circuit + j) gate.inputs n (lower-at circuit numbering j gate at) (slice_get-Contains gate.inputs i n there) in
       omega (arith, below, low, long, length-nets circuit numbering))))
 
   by_number : IsSettledUpTo circuit (map level_from vector) (length circuit.gates) all outs
@@ -247,3 +252,45 @@ kept_in circuit numbering keep pair first second kept = λ before after one two 
 -- each pair keeps what is no condition
 pub nothing_kept : (netlist : Netlist) (pair : Pair) → IsKept netlist [] pair
 nothing_kept netlist pair = λ before after one two i condition net at named. absurd (none-some condition at)
+
+-- ---- lists, one element more at a time
+
+level_first : (cube : List Trit) (i : ℕ) (t : Trit) → 2 * i + 1 < length cube → slice_get cube (2 * i) ≡ Some t → slice_get (first_levels cube) i ≡ Some (level_of_trit t)
+level_first [] i t low at = absurd (none-some t at)
+level_first (p ∷ []) i t low at = absurd (omega arith)
+level_first (p ∷ q ∷ cube) zero t low at = ap (λ (u : Trit). Some (level_of_trit u)) (some-same p t at)
+level_first (p ∷ q ∷ cube) (suc i) t low at =
+    let two : 2 * suc i ≡ suc (suc (2 * i)) = omega arith in
+    level_first cube i t (omega (arith, low)) (ap (slice_get (p ∷ q ∷ cube)) (sym two) ∙ at)
+
+level_second : (cube : List Trit) (i : ℕ) (t : Trit) → 2 * i + 1 < length cube → slice_get cube (2 * i + 1) ≡ Some t → slice_get (second_levels cube) i ≡ Some (level_of_trit t)
+level_second [] i t low at = absurd (none-some t at)
+level_second (p ∷ []) i t low at = absurd (omega arith)
+level_second (p ∷ q ∷ cube) zero t low at = ap (λ (u : Trit). Some (level_of_trit u)) (some-same q t at)
+level_second (p ∷ q ∷ cube) (suc i) t low at =
+    let two : 2 * suc i + 1 ≡ suc (suc (2 * i + 1)) = omega arith in
+    level_second cube i t (omega (arith, low)) (ap (slice_get (p ∷ q ∷ cube)) (sym two) ∙ at)
+
+pub levels_more : (second : Bool) (cube : List Trit) (i : ℕ) (t : Trit) → 2 * i + 1 < length cube → slice_get cube (2 * i + side second) ≡ Some t
+    → take (i + 1) (levels_by second cube) ≡ take i (levels_by second cube) ++ level_of_trit t ∷ []
+levels_more true cube i t low at =
+    ap (λ n. take n (second_levels cube)) (let next : i + 1 ≡ suc i = omega arith in next)
+    ∙ take_push (second_levels cube) i (level_of_trit t) (level_second cube i t low at)
+levels_more false cube i t low at =
+    let same : 2 * i + 0 ≡ 2 * i = omega arith in
+    ap (λ n. take n (first_levels cube)) (let next : i + 1 ≡ suc i = omega arith in next)
+    ∙ take_push (first_levels cube) i (level_of_trit t) (level_first cube i t low (ap (slice_get cube) (sym same) ∙ at))
+
+few_firsts : (cube : List Trit) → 2 * length (first_levels cube) ≤ length cube
+few_firsts [] = omega arith
+few_firsts (p ∷ []) = omega arith
+few_firsts (p ∷ q ∷ cube) = omega (arith, few_firsts cube)
+
+few_seconds : (cube : List Trit) → 2 * length (second_levels cube) ≤ length cube
+few_seconds [] = omega arith
+few_seconds (p ∷ []) = omega arith
+few_seconds (p ∷ q ∷ cube) = omega (arith, few_seconds cube)
+
+pub few_levels : (second : Bool) (cube : List Trit) → 2 * length (levels_by second cube) ≤ length cube
+few_levels true cube = few_seconds cube
+few_levels false cube = few_firsts cube

@@ -30,8 +30,8 @@ use Rattle.td_domain.proofs.Changing.{vectors_in}
 use Rattle.td_spans.specs.declared.condition.Form.{Form}
 use Rattle.td_spans.specs.declared.condition.Form.TheVariants.{Levels, Equal}
 use Rattle.td_spans.specs.Lookups.{net_named}
-use Rattle.td_refutation.specs.declared.asking.NamedCondition.{NamedCondition}
-use Rattle.td_refutation.specs.Asking.{net_at, Keeps, IsKept, first_levels, second_levels, is_other, breaks, IsBroken, agrees, keeps, is_at, all_kept, some_broken}
+use Rattle.td_refutation.specs.declared.conditions.NamedCondition.{NamedCondition}
+use Rattle.td_refutation.specs.Asking.{net_at, Keeps, IsKept, first_levels, second_levels, levels_by, is_other, breaks, IsBroken, agrees, keeps, is_at, all_kept, some_broken}
 use Rattle.td_refutation.proofs.Asking.{net_is_at}
 
 -- ---- nets that numbers name
@@ -371,3 +371,22 @@ module _ (circuit : Numbered) (numbering : IsNumbering circuit) (first second be
       ∙ sym (same_test breaks it.condition.form it.before it.after it.net (subst (λ (v : List Level). IsSettled circuit.netlist v it.before) (sym p) it.starts)
       (subst (λ (v : List Level). IsSettled circuit.netlist v it.after) (sym q) it.ends) (net_of circuit.netlist it.condition.net it.net it.named))
       ∙ it.broken)
+
+-- ---- lengths
+
+long_firsts : (n : ℕ) (cube : List Trit) → length cube ≡ 2 * n → length (first_levels cube) ≡ n
+long_firsts n [] whole = omega (arith, whole)
+long_firsts n (p ∷ []) whole = absurd (omega (arith, whole))
+long_firsts zero (p ∷ q ∷ cube) whole = absurd (omega (arith, whole))
+long_firsts (suc n) (p ∷ q ∷ cube) whole = ap suc (long_firsts n cube (omega (arith, whole)))
+
+long_seconds : (n : ℕ) (cube : List Trit) → length cube ≡ 2 * n → length (second_levels cube) ≡ n
+long_seconds n [] whole = omega (arith, whole)
+long_seconds n (p ∷ []) whole = absurd (omega (arith, whole))
+long_seconds zero (p ∷ q ∷ cube) whole = absurd (omega (arith, whole))
+long_seconds (suc n) (p ∷ q ∷ cube) whole = ap suc (long_seconds n cube (omega (arith, whole)))
+
+pub long_levels : (second : Bool) (circuit : Numbered) (cube : List Trit) → length cube ≡ 2 * length circuit.netlist.inputs
+    → length (levels_by second cube) ≡ length circuit.netlist.inputs
+long_levels true circuit cube whole = long_seconds (length circuit.netlist.inputs) cube whole
+long_levels false circuit cube whole = long_firsts (length circuit.netlist.inputs) cube whole

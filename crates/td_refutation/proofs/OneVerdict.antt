@@ -4,6 +4,7 @@ use Rattle.std.specs.Prelude.{◌==◌, nat_lt, nat_le, ◌&&◌, slice_get, opt
 use Rattle.std.specs.List.{list_all}
 use Rattle.std.proofs.lemmas.Bool.{cases_lt}
 use Rattle.std.proofs.lemmas.List.{length-map}
+use Rattle.std.proofs.lemmas.List.Concat.{flat_map-cons}
 use Rattle.td_gates.proofs.Places.{some-same, slice_get-some, slice_get-map_some}
 use Rattle.td_nets.specs.Netlist.{Net, Named, Netlist}
 use Rattle.td_circuit.specs.Settings.{Setting}
@@ -31,8 +32,8 @@ use Rattle.td_refutation.specs.declared.kind.StepKind.{StepKind}
 use Rattle.td_refutation.specs.declared.kind.StepKind.TheVariants as kind
 use Rattle.td_refutation.specs.Doing.{State, first_state, IsGood, after, flaw_of, AreGood, state_to}
 use Rattle.td_refutation.specs.Lines.{Step, Deed, NoDeed, Having, Naming, Showing, Lowering, Retaking, literal_at, of_net, of_span, span_variable, flips_variable, variable_at, is_literal, naming, having, showing, lowering_at, retaking_at, shown_by_numbers, deed_of}
-use Rattle.td_refutation.specs.declared.asking.NamedCondition.{NamedCondition}
-use Rattle.td_refutation.specs.Asking.{Asking, condition_on, conditions_in, asked_in}
+use Rattle.td_refutation.specs.declared.conditions.NamedCondition.{NamedCondition}
+use Rattle.td_refutation.specs.Asking.{Asking, condition_on, condition_in, conditions_in, asked_in}
 use Rattle.td_refutation.specs.Whole.{IsOfSetting, AreAllGood, last_state, latest_after, IsFirstBad}
 use Rattle.td_refutation.specs.Numberings.{IsSameQuestion, IsSameState, OneVerdict, LeafHasOneVerdict}
 use Rattle.td_refutation.proofs.Asking.{comes_from, net_is_at}
@@ -405,12 +406,16 @@ conditions_renamed : (this that : Numbered) (r : ℕ → ℕ) → IsRenaming thi
     → conditions_in that keep ≡ map (renamed_condition r) (conditions_in this keep)
 conditions_renamed this that r renaming [] = refl
 conditions_renamed this that r renaming (first ∷ keep) =
-    ap (λ o. condition_on first.form o ++ conditions_in that keep) (renaming.named first.net) ∙ go (net_named this first.net)
+    flat_map-cons (condition_in that) first keep
+    ∙ ap (λ o. condition_on first.form o ++ conditions_in that keep) (renaming.named first.net)
+    ∙ go (conditions_renamed this that r renaming keep) (net_named this first.net)
+    ∙ ap (map (renamed_condition r)) (sym (flat_map-cons (condition_in this) first keep))
   where
-    go : (o : Option ℕ) → condition_on first.form (option_map r o) ++ conditions_in that keep
+    go : conditions_in that keep ≡ map (renamed_condition r) (conditions_in this keep) → (o : Option ℕ)
+        → condition_on first.form (option_map r o) ++ conditions_in that keep
         ≡ map (renamed_condition r) (condition_on first.form o ++ conditions_in this keep)
-    go None = conditions_renamed this that r renaming keep
-    go (Some net) = ap (λ rest. record { net = r net; form = first.form } ∷ rest) (conditions_renamed this that r renaming keep)
+    go same None = same
+    go same (Some net) = ap (λ (rest : List Condition). record { net = r net; form = first.form } ∷ rest) same
 
 -- the conditions of a circuit are on nets of it
 condition_net : (this : Numbered) → IsNumbering this → (keep : List NamedCondition) (i : ℕ) (c : Condition) → slice_get (conditions_in this keep) i ≡ Some c

@@ -1,6 +1,7 @@
 -- Asking: which pairs are asked about, by what is admitted and by conditions on nets that are named
 -- by numbers.
 use Rattle.std.specs.Prelude.{◌≡◌, ℕ, Bool, true, false, ◌&&◌, ◌||◌, List, [], ◌∷◌, ◌++◌, map, slice_get, slice_index_or, Option, Some, None}
+use Rattle.std.specs.List.{list_all, list_any, flat_map}
 use Rattle.td_gates.specs.declared.primitives.Level.{Level}
 use Rattle.td_gates.specs.declared.primitives.Level.TheVariants.{Zero, One, X}
 use Rattle.td_gates.specs.Known.{Agrees}
@@ -17,7 +18,7 @@ use Rattle.td_spans.specs.declared.condition.Form.TheVariants.{Levels, Equal}
 use Rattle.td_spans.specs.declared.condition.Condition.{Condition}
 use Rattle.td_spans.specs.Conditions.{Asked}
 use Rattle.td_spans.specs.Lookups.{net_named}
-use Rattle.td_refutation.specs.declared.asking.NamedCondition.{NamedCondition}
+use Rattle.td_refutation.specs.declared.conditions.NamedCondition.{NamedCondition}
 
 -- the pairs that are asked about: admitted ones that keep these conditions
 pub record Asking : Type 0 where
@@ -63,6 +64,16 @@ abbrev pub second_levels : List Trit → List Level
 second_levels (first ∷ second ∷ cube) = level_of_trit second ∷ second_levels cube
 second_levels cube = []
 
+-- the place of an input's bit in a cube, after that of its first bit
+abbrev pub side : Bool → ℕ
+side true = 1
+side false = 0
+
+-- the levels of the second bits, or those of the first
+abbrev pub levels_by : Bool → List Trit → List Level
+levels_by true cube = second_levels cube
+levels_by false cube = first_levels cube
+
 -- both levels are known, and they differ
 abbrev pub is_other : Level → Level → Bool
 is_other Zero One = true
@@ -98,9 +109,11 @@ abbrev pub condition_on : Form → Option ℕ → List Condition
 condition_on form None = []
 condition_on form (Some net) = record { net = net; form = form } ∷ []
 
+abbrev pub condition_in : Numbered → NamedCondition → List Condition
+condition_in circuit condition = condition_on condition.form (net_named circuit condition.net)
+
 abbrev pub conditions_in : Numbered → List NamedCondition → List Condition
-conditions_in circuit [] = []
-conditions_in circuit (condition ∷ keep) = condition_on condition.form (net_named circuit condition.net) ++ conditions_in circuit keep
+conditions_in circuit keep = flat_map (condition_in circuit) keep
 
 abbrev pub asked_in : Numbered → Asking → Asked
 asked_in circuit asking = record { admit = asking.admit; keep = conditions_in circuit asking.keep }
@@ -123,12 +136,8 @@ is_at test none form before after (Some net) = test form (slice_index_or before 
 
 -- whether all conditions on nets of the circuit are kept
 abbrev pub all_kept : Numbered → List Level → List Level → List NamedCondition → Bool
-all_kept circuit before after [] = true
-all_kept circuit before after (condition ∷ keep) =
-    is_at keeps true condition.form before after (net_named circuit condition.net) && all_kept circuit before after keep
+all_kept circuit before after keep = list_all (λ condition. is_at keeps true condition.form before after (net_named circuit condition.net)) keep
 
 -- whether some condition on a net of the circuit is broken
 abbrev pub some_broken : Numbered → List Level → List Level → List NamedCondition → Bool
-some_broken circuit before after [] = false
-some_broken circuit before after (condition ∷ keep) =
-    is_at breaks false condition.form before after (net_named circuit condition.net) || some_broken circuit before after keep
+some_broken circuit before after keep = list_any (λ condition. is_at breaks false condition.form before after (net_named circuit condition.net)) keep

@@ -3,7 +3,7 @@
 //! clauses on spans of places at which nets keep a level.
 #![tactic(auto)]
 
-mod asking;
+mod conditions;
 mod flaw;
 mod kind;
 pub mod laws;
@@ -12,7 +12,7 @@ mod refutation;
 mod settled;
 mod whole;
 
-pub use asking::{NamedCondition, question_on};
+pub use conditions::{NamedCondition, question_on};
 pub use flaw::{Flaw, StepError};
 pub use kind::StepKind;
 pub use refutation::Refutation;

@@ -1,11 +1,12 @@
 //! Conditions on the settled levels of pairs and cubes.
 
-ghost use Rattle.std.specs.Prelude.{◌≡◌, ◌↔◌, ◌*◌, length, map, slice_index_or, IfOk, IsTrue};
+ghost use Rattle.std.specs.Prelude.{◌≡◌, ◌↔◌, ◌*◌, length, map, slice_index_or, true, false, IfOk, IsTrue};
 ghost use Rattle.td_gates.specs.declared.primitives.Level.TheVariants.{X};
 ghost use Rattle.td_gates.specs.Table.{level_from};
-ghost use Rattle.td_refutation.specs.Asking.{IsKept, IsBroken, first_levels, second_levels, is_other, breaks, agrees, keeps, is_at, all_kept, some_broken};
+ghost use Rattle.td_spans.specs.Lookups.{net_named};
+ghost use Rattle.td_refutation.specs.Asking.{IsKept, IsBroken, side, levels_by, is_other, breaks, agrees, keeps, is_at, all_kept, some_broken};
 
-use crate::asking::NamedCondition;
+use crate::conditions::NamedCondition;
 use std::alloc::{AllocError, Global};
 use td_circuit::Circuit;
 use td_domain::{Cube, Pair};
@@ -61,6 +62,44 @@ fn level_at(levels: &[Level], net: u32) -> Level
     }
 }
 
+// Whether a condition is kept, or names no net of the circuit.
+fn is_kept_at(
+    circuit: &Circuit,
+    before: &[Level],
+    after: &[Level],
+    condition: NamedCondition,
+) -> bool
+    ensures { result ≡ is_at keeps true condition.form before.now after.now (net_named circuit.now condition.net) }
+{
+    match net_named(circuit, condition.net) {
+        None => true,
+        Some(net) => keeps(
+            condition.form,
+            level_at(before, net),
+            level_at(after, net),
+        ),
+    }
+}
+
+// Whether a condition is broken, on a net of the circuit.
+fn is_broken_at(
+    circuit: &Circuit,
+    before: &[Level],
+    after: &[Level],
+    condition: NamedCondition,
+) -> bool
+    ensures { result ≡ is_at breaks false condition.form before.now after.now (net_named circuit.now condition.net) }
+{
+    match net_named(circuit, condition.net) {
+        None => false,
+        Some(net) => breaks(
+            condition.form,
+            level_at(before, net),
+            level_at(after, net),
+        ),
+    }
+}
+
 // Whether all conditions on nets of the circuit are kept, where its nets settle so.
 fn all_kept(
     circuit: &Circuit,
@@ -70,14 +109,8 @@ fn all_kept(
 ) -> bool
     ensures { result ≡ all_kept circuit.now before.now after.now keep.now }
 {
-    for condition in keep {
-        if let Some(net) = net_named(circuit, condition.net) {
-            if !keeps(condition.form, level_at(before, net), level_at(after, net)) {
-                return false;
-            }
-        }
-    }
-    true
+    keep.iter()
+        .all(|condition| is_kept_at(circuit, before, after, *condition))
 }
 
 // Whether some condition on a net of the circuit is broken, where its nets settle so.
@@ -89,14 +122,8 @@ fn some_broken(
 ) -> bool
     ensures { result ≡ some_broken circuit.now before.now after.now keep.now }
 {
-    for condition in keep {
-        if let Some(net) = net_named(circuit, condition.net) {
-            if breaks(condition.form, level_at(before, net), level_at(after, net)) {
-                return true;
-            }
-        }
-    }
-    false
+    keep.iter()
+        .any(|condition| is_broken_at(circuit, before, after, *condition))
 }
 
 fn levels_of(alloc: Global, vector: &[bool]) -> Result<Vec<Level>, AllocError>
@@ -109,13 +136,20 @@ fn levels_of(alloc: Global, vector: &[bool]) -> Result<Vec<Level>, AllocError>
     Ok(levels)
 }
 
+// By how much the position of an input's second bit passes that of its first, and 0 for the first.
+fn side(second: bool) -> usize
+    ensures { result ≡ side second }
+{
+    if second { 1 } else { 0 }
+}
+
 // The levels of the bits of a cube, x where they are free: the first of each input, or the second.
 fn levels_in(alloc: Global, cube: &Cube, second: bool) -> Result<Vec<Level>, AllocError>
-    ensures { IfOk result (λ levels. levels.items ≡ (if second then second_levels cube.now else first_levels cube.now)) }
+    ensures { IfOk result (λ levels. levels.items ≡ levels_by second cube.now) }
 {
     let mut levels = Vec::new(alloc);
     for input in 0..cube.len() / 2 {
-        levels.push(cube.trit(2 * input + usize::from(second)).level())?;
+        levels.push(cube.trit(2 * input + side(second)).level())?;
     }
     Ok(levels)
 }
@@ -134,8 +168,12 @@ pub fn is_kept(
     if keep.is_empty() {
         return Ok(true);
     }
-    let before = settle(alloc, circuit, &levels_of(alloc, pair.first())?)?;
-    let after = settle(alloc, circuit, &levels_of(alloc, pair.second())?)?;
+    // For the prover: this call says that the gates are in order.
+    let _gates = circuit.gates();
+    let firsts = levels_of(alloc, pair.first())?;
+    let seconds = levels_of(alloc, pair.second())?;
+    let before = settle(alloc, circuit, &firsts)?;
+    let after = settle(alloc, circuit, &seconds)?;
     Ok(all_kept(circuit, &before, &after, keep))
 }
 
@@ -153,7 +191,11 @@ pub fn is_broken(
     if keep.is_empty() {
         return Ok(false);
     }
-    let before = settle(alloc, circuit, &levels_in(alloc, cube, false)?)?;
-    let after = settle(alloc, circuit, &levels_in(alloc, cube, true)?)?;
+    // For the prover: this call says that the gates are in order.
+    let _gates = circuit.gates();
+    let firsts = levels_in(alloc, cube, false)?;
+    let seconds = levels_in(alloc, cube, true)?;
+    let before = settle(alloc, circuit, &firsts)?;
+    let after = settle(alloc, circuit, &seconds)?;
     Ok(some_broken(circuit, &before, &after, keep))
 }

@@ -7,7 +7,7 @@ ghost use Rattle.td_refutation.specs.Refuting.{IsUpperBoundOf};
 ghost use Rattle.td_refutation.specs.Doing.{state_of, first_state};
 ghost use Rattle.td_refutation.specs.Whole.{step_of, AreDone, IsRefuted, IsRefusal};
 
-use crate::asking::question_on;
+use crate::conditions::question_on;
 use crate::flaw::{Flaw, StepError};
 use crate::kind::StepKind;
 use crate::refutation::Refutation;

@@ -9,7 +9,7 @@ use Rattle.td_lead.specs.Timed.{IsTimed}
 use Rattle.td_refutation.specs.Whole.{IsRefuted}
 use Rattle.td_certificate.specs.declared.tree.Node.{Node}
 use Rattle.td_certificate.specs.declared.tree.Node.TheVariants.{Refuted}
-use Rattle.td_refutation.specs.declared.asking.NamedCondition.{NamedCondition}
+use Rattle.td_refutation.specs.declared.conditions.NamedCondition.{NamedCondition}
 use Rattle.td_refutation.specs.Asking.{all_admitted, IsKept}
 use Rattle.td_refutation.proofs.Asking.{nothing_kept}
 use Rattle.td_certificate.specs.Accepts.{IsGood, are_fit}

@@ -1,7 +1,8 @@
 //! Conditions on nets that are named by numbers.
 
-ghost use Rattle.std.specs.Prelude.{◌≡◌, IfOk};
-ghost use Rattle.td_refutation.specs.Asking.{conditions_in, asked_in};
+ghost use Rattle.std.specs.Prelude.{◌≡◌, ◌++◌, IfOk, OnOk};
+ghost use Rattle.td_spans.specs.Lookups.{net_named};
+ghost use Rattle.td_refutation.specs.Asking.{condition_on, conditions_in, asked_in};
 
 use std::alloc::{AllocError, Global};
 use td_circuit::Circuit;
@@ -16,6 +17,26 @@ pub struct NamedCondition {
     pub form: Form,
 }
 
+// Adds the condition on a net of the circuit, if there is one.
+fn push_condition(
+    circuit: &Circuit,
+    conditions: &mut Vec<Condition>,
+    condition: NamedCondition,
+) -> Result<(), AllocError>
+    ensures { OnOk result (conditions.new.items ≡ conditions.old.items ++ condition_on condition.form (net_named circuit.now condition.net)) }
+{
+    match net_named(circuit, condition.net) {
+        None => Ok(()),
+        Some(net) => {
+            conditions.push(Condition {
+                net,
+                form: condition.form,
+            })?;
+            Ok(())
+        }
+    }
+}
+
 // The conditions on nets of the circuit. One that names no net isn't among them.
 fn conditions_in(
     alloc: Global,
@@ -26,12 +47,7 @@ fn conditions_in(
 {
     let mut conditions = Vec::new(alloc);
     for condition in keep {
-        if let Some(net) = net_named(circuit, condition.net) {
-            conditions.push(Condition {
-                net,
-                form: condition.form,
-            })?;
-        }
+        push_condition(circuit, &mut conditions, *condition)?;
     }
     Ok(conditions)
 }
