@@ -1,15 +1,13 @@
 -- Keeping: conditions on the nets of a circuit are kept, or broken, as the tests of its settled
 -- levels say.
-use Rattle.std.proofs.Common.{◌≡◌, ◌≢◌, ℕ, zero, suc, ◌+◌, ◌-◌, ◌*◌, ◌<◌, ◌≤◌, Bool, true, false, List, [], ◌∷◌, ◌++◌, length, map, get_or, Option, Some, None, inl, inr, refl, ap, sym, ◌∙◌, subst, arith, length-append}
-use Rattle.std.specs.Prelude.{◌&&◌, ◌||◌, nat_lt, slice_get, option_map, if◌then◌else◌}
-use Rattle.std.specs.List.{AllZip, Contains}
+use Rattle.std.proofs.Common.{◌≡◌, ℕ, zero, suc, ◌-◌, ◌*◌, ◌<◌, Bool, true, false, List, [], ◌∷◌, ◌++◌, length, map, get_or, Option, Some, None, inl, inr, refl, ap, sym, ◌∙◌, subst, arith, length-append}
+use Rattle.std.specs.Prelude.{◌&&◌, ◌||◌, slice_get}
+use Rattle.std.specs.List.{Contains}
 use Rattle.std.proofs.lemmas.Bool.{cases_lt, lt-ltb, le-ltb, and_parts}
 use Rattle.std.proofs.lemmas.List.{length-map}
 use Rattle.std.proofs.lemmas.List.Elements.{All-contains}
-use Rattle.std.proofs.lemmas.Option.{slice_get-map}
 use Rattle.td_gates.specs.declared.primitives.Level.{Level}
 use Rattle.td_gates.specs.declared.primitives.Level.TheVariants.{Zero, One, X}
-use Rattle.td_gates.specs.declared.primitives.Kind.{Kind}
 use Rattle.td_gates.specs.Known.{Agrees}
 use Rattle.td_gates.specs.Table.{table, level_eq, level_from}
 use Rattle.td_gates.proofs.Places.{none-some, some-same, slice_get-some, slice_get-within, slice_get-map_some, slice_get-Contains}
@@ -23,7 +21,7 @@ use Rattle.td_circuit.proofs.Values.{value_at}
 use Rattle.td_run.proofs.Existence.{levels_exist}
 use Rattle.td_run.proofs.Settled.{is_settled}
 use Rattle.td_domain.specs.declared.cubes.Trit.{Trit}
-use Rattle.td_domain.specs.Cubes.{level_of_trit, AllowsBits, IsIn}
+use Rattle.td_domain.specs.Cubes.{AllowsBits, IsIn}
 use Rattle.td_domain.specs.Pairs.{Pair}
 use Rattle.td_domain.proofs.BitLemmas.{bit_known}
 use Rattle.td_domain.proofs.Changing.{vectors_in}

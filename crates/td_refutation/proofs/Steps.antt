@@ -2,7 +2,6 @@
 use Rattle.std.proofs.Common.{◌≡◌, true, false, List, [], ◌∷◌, ◌++◌, length, refl, ap, subst, arith}
 use Rattle.td_circuit.specs.Settings.{Setting}
 use Rattle.td_circuit.specs.Numbering.{Numbered, setting}
-use Rattle.td_nets.specs.Netlist.{Netlist}
 use Rattle.td_domain.specs.declared.cubes.Trit.{Trit}
 use Rattle.td_domain.proofs.Changing.{vectors_in}
 use Rattle.td_propagation.specs.declared.literal.Literal.{Literal}

@@ -1,5 +1,4 @@
-use Rattle.std.proofs.Common.{true, false, length, ◌∙◌, arith}
-use Rattle.td_refutation.specs.Asking.{levels_by}
+use Rattle.std.proofs.Common.{true, false}
 use Rattle.td_refutation.proofs.Keeping.{AreLevels, tests_break, broken_tests, long_levels}
 use Rattle.td_refutation.proofs.settled.is_broken.Goals as goal
 
