@@ -269,6 +269,7 @@ accepted_is_worst netlist c well_formed acyclic fit accepts none same =
       admitted = claim.admitted.admitted;
       reached = claim.reached;
       greatest = λ pair delay admitted is.
-          let about = record { admitted = admitted; kept = subst (λ keep. IsKept netlist keep pair) (sym none) (nothing_kept netlist pair) } in
+          let about : IsAskedAbout netlist (asking_of c.question) pair =
+          record { admitted = admitted; kept = subst (λ keep. IsKept netlist keep pair) (sym none) (nothing_kept netlist pair) } in
           subst (λ (n : ℕ). delay ≤ n) same (claim.bounded pair delay about is);
     }

@@ -27,7 +27,7 @@ use Rattle.td_certificate.specs.declared.tree.BoundedBy.TheVariants as by
 use Rattle.td_certificate.specs.declared.tree.Node.{Node}
 use Rattle.td_certificate.specs.declared.tree.Node.TheVariants as node
 use Rattle.td_certificate.specs.declared.certificate.Certificate.{Certificate}
-use Rattle.td_certificate.specs.Questions.{keep_by, asking_of}
+use Rattle.td_certificate.specs.Questions.{inputs_of, keep_by, asking_of}
 use Rattle.td_certificate.specs.Spelling.{inputs}
 use Rattle.td_certificate.specs.Text.{level_byte}
 use Rattle.td_certificate.specs.Trees.{IsTree}
@@ -109,7 +109,7 @@ are_fit count (this ∷ that ∷ keep) = nat_le 2 this.net && is_before this tha
 pub record IsOfSize (netlist : Netlist) (c : Certificate) : Type 0 where
   pub inputs : length netlist.inputs ≡ inputs c
   pub gates : length netlist.gates ≡ c.gates
-  pub fit : are_fit (2 + inputs c + c.gates) (keep_by c.question.terms) ≡ true
+  pub fit : are_fit (2 + inputs_of c.question + c.gates) (keep_by c.question.terms) ≡ true
 
 -- the netlist with the certificate's moments
 abbrev pub setting_of : Netlist → Certificate → Setting

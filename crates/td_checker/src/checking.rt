@@ -5,8 +5,7 @@ ghost use Rattle.td_nets.specs.WellFormed.{IsWellFormed};
 ghost use Rattle.td_circuit.specs.Numbering.{setting};
 ghost use Rattle.td_circuit.specs.Run.{IsDelayOfBits};
 ghost use Rattle.td_certificate.specs.Questions.{asking_of};
-ghost use Rattle.td_certificate.specs.Text.{level_byte};
-ghost use Rattle.td_certificate.specs.Accepts.{lines_in, form_order, is_before, are_fit, IsOfSize};
+ghost use Rattle.td_certificate.specs.Accepts.{lines_in, IsOfSize};
 ghost use Rattle.td_certificate.specs.Faults.{IsWithinLimit};
 ghost use Rattle.td_certificate.specs.Spelling.{head_lines, HasSpelling, Spells};
 ghost use Rattle.td_event_sim.specs.Scratch.{IsFor};
@@ -17,17 +16,16 @@ ghost use Rattle.td_checker.specs.Checks.{HaveVerdict, IsCheckFault, IsCertifica
 
 use crate::admitting::is_asked_about;
 use crate::judging::{Flaw, Judged, judge};
+use crate::order::are_fit;
 use crate::verdict::{CheckFault, Checked, Verdict};
 use crate::walking::Walk;
 use std::alloc::{AllocError, Global};
 use td_certificate::{CertFaultKind, Certificate, Terms, Version};
 use td_circuit::Circuit;
 use td_event_sim::{Scratch, delay_of};
-use td_gates::{Delay, Level};
+use td_gates::Delay;
 use td_reading::Reading;
-use td_refutation::NamedCondition;
 use td_source::{Source, source_of};
-use td_spans::Form;
 
 /// The first bad line of a tree: how many of its lines stand before it, and what is wrong with it.
 #[derive(Clone, Copy, Drop)]
@@ -103,53 +101,6 @@ fn reported_of(flaw: Flaw, line: u32) -> Verdict
         Flaw::NotEmpty => Verdict::LeafNotEmpty(line),
         Flaw::AboveTime => Verdict::LeafAboveTime(line),
         Flaw::BadStep(flaw) => Verdict::BadStep(line, flaw),
-    }
-}
-
-/// The number by which a condition stands among others on its net, by the bytes of its form.
-fn form_order(form: Form) -> u32
-    ensures { result ≡ form_order form }
-{
-    match form {
-        Form::Levels(first, second) => 256 * level_byte(first) + level_byte(second),
-        Form::Equal => 256 * 61 + 61,
-    }
-}
-
-fn level_byte(level: Level) -> u32
-    ensures is { result ≡ level_byte level }
-    ensures small { result ≤ 49 }
-{
-    match level {
-        Level::Zero => 48,
-        Level::One => 49,
-        Level::X => 46,
-    }
-}
-
-fn is_before(this: NamedCondition, that: NamedCondition) -> bool
-    ensures { result ≡ is_before this that }
-{
-    this.net < that.net || (this.net == that.net && form_order(this.form) < form_order(that.form))
-}
-
-/// Whether conditions rise, and each is on an input or a gate's output, where there are this many
-/// nets.
-fn are_fit(count: u64, keep: &[NamedCondition]) -> bool
-    ensures { result ≡ are_fit count keep.now }
-{
-    let mut rest = keep;
-    'conditions: loop {
-        match rest {
-            [] => return true,
-            [this] => return 2 <= this.net && this.net < count,
-            [this, that, ..] => {
-                if !(2 <= this.net && is_before(*this, *that)) {
-                    return false;
-                }
-                rest = &rest[1..];
-            }
-        }
     }
 }
 

@@ -19,8 +19,7 @@ use Rattle.td_certificate.specs.Trees as trees
 use Rattle.td_certificate.specs.Walks.{Line, lines_from}
 use Rattle.td_refutation.specs.declared.conditions.NamedCondition.{NamedCondition}
 use Rattle.td_refutation.specs.Asking.{Asking, IsKept, IsAskedAbout}
-use Rattle.td_certificate.specs.Questions.{Terms, keep_by, asking_of}
-use Rattle.td_certificate.specs.Spelling.{inputs}
+use Rattle.td_certificate.specs.Questions.{Terms, inputs_of, keep_by, asking_of}
 use Rattle.td_certificate.specs.Accepts.{IsGood, IsOfCube, IsWithin, are_fit, Accepts, setting_of}
 use Rattle.td_certificate.proofs.TreeLaws.{trees_are_counted}
 use Rattle.td_certificate.proofs.Walking.{lines_are_walked}
@@ -256,10 +255,10 @@ accepted_together netlist certificates pins whole joined accepted =
     }
   where
     fits_whole : (c : Certificate) → IsAlike whole c → keep_by c.question.terms ≡ keep_by whole.question.terms
-        → are_fit (2 + inputs c + c.gates) (keep_by c.question.terms) ≡ true → are_fit (2 + inputs whole + whole.gates) (keep_by whole.question.terms) ≡ true
+        → are_fit (2 + inputs_of c.question + c.gates) (keep_by c.question.terms) ≡ true → are_fit (2 + inputs_of whole.question + whole.gates) (keep_by whole.question.terms) ≡ true
     fits_whole c alike keep fit =
-        ap (λ (n : ℕ). are_fit n (keep_by whole.question.terms)) (ap (λ (hs : List Bool). 2 + length hs + whole.gates) alike.held ∙ ap (λ (g : ℕ). 2 + inputs c + g) alike.gates)
-        ∙ ap (are_fit (2 + inputs c + c.gates)) (sym keep) ∙ fit
+        ap (λ (n : ℕ). are_fit n (keep_by whole.question.terms)) (ap (λ (hs : List Bool). 2 + length hs + whole.gates) alike.held ∙ ap (λ (g : ℕ). 2 + inputs_of c.question + g) alike.gates)
+        ∙ ap (are_fit (2 + inputs_of c.question + c.gates)) (sym keep) ∙ fit
 
     good_part : (c : Certificate) → IsAlike whole c → keep_by c.question.terms ≡ keep_by whole.question.terms → Accepts netlist c → c.high ≤ whole.high → IsGoodPart (setting_of netlist whole) (asking_of whole.question) whole.high c
     good_part c alike keep accepts less = record {
