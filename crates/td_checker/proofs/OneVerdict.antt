@@ -22,7 +22,7 @@ use Rattle.td_certificate.specs.Walks.{position_of, Line, lines_from}
 use Rattle.td_certificate.specs.Accepts.{lines_in, SplitsFree, IsOfOnePair, IsOfCube, IsGood, IsOfSize, setting_of, HasItsTime, Accepts}
 use Rattle.td_certificate.proofs.Acceptance.{cube_fits, vector_fits}
 use Rattle.td_certificate.proofs.Texts.{spells_once}
-use Rattle.td_certificate.proofs.VectorCodes.{cases, none_not, some_is}
+use Rattle.td_certificate.proofs.VectorCodes.{none_not, some_is}
 use Rattle.td_checker.specs.declared.verdict.Verdict.{Verdict}
 use Rattle.td_checker.specs.declared.verdict.Verdict.TheVariants as verdict
 use Rattle.td_checker.specs.Verdicts.{Flaw, Misplaced, NotOnePair, WrongNumber, NotEmpty, AboveTime, BadStep, SaysEmpty, IsWrong, HasBadStep, HasFlaw, line_total, reported_at, IsGoodIn, HasAdmittedPair, IsFirstBad, AreTold, AreOther, IsVerdictOn, IsVerdict, OneVerdict}

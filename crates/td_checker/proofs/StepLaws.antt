@@ -11,7 +11,7 @@ use Rattle.td_spans.specs.Lowering.{latest_of}
 use Rattle.td_refutation.specs.declared.flaw.Flaw as step_flaw
 use Rattle.td_refutation.specs.declared.kind.StepKind.{StepKind}
 use Rattle.td_refutation.specs.declared.refutation.Refutation.{Refutation}
-use Rattle.td_refutation.specs.Doing.{State, state_of, first_state, IsGood, after, flaw_of, AreGood, state_to}
+use Rattle.td_refutation.specs.Doing.{State, state_of, first_state, IsGood, AreGood, state_to}
 use Rattle.td_refutation.specs.Lines.{Step, deed_of}
 use Rattle.td_refutation.specs.Asking.{Asking, asked_in}
 use Rattle.td_refutation.specs.Whole.{IsOfSetting, IsRefuted, IsFirstBad, IsBadStep}

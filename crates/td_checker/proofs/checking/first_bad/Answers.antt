@@ -1,4 +1,4 @@
-use Rattle.std.proofs.Common.{◌≡◌, ◌+◌, ◌≤◌, Some, length, reverse, ap, subst, arith}
+use Rattle.std.proofs.Common.{◌≡◌, ◌+◌, ◌≤◌, Some, length, reverse, ap, arith}
 use Rattle.std.specs.Prelude.{slice_get}
 use Rattle.td_circuit.specs.Numbering.{setting}
 use Rattle.td_certificate.specs.declared.tree.Node.{Node}
