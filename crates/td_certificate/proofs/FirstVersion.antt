@@ -95,5 +95,5 @@ pub may_lie : (netlist : Netlist) (question : Question) (cube : List Trit) → v
 may_lie netlist question cube first pins size = (
   has_admitted question cube first pins size,
   λ broken. absurd (none-some broken.condition
-  (ap (λ (keep : List NamedCondition). slice_get keep broken.place) (sym (no_keep question.terms question.admit question.moments first)) ∙ broken.stands)),
+      (ap (λ (keep : List NamedCondition). slice_get keep broken.place) (sym (no_keep question.terms question.admit question.moments first)) ∙ broken.stands)),
 )

@@ -163,8 +163,14 @@ module _ (circuit : Numbered) (numbering : IsNumbering circuit) (vector : List B
   all = (Zero ∷ One ∷ map level_from vector) ++ outs
 
   long : length all ≡ length (nets circuit)
-  long = omega (arith, length-append (Zero ∷ One ∷ map level_from vector) outs, length-map vector level_from, count,
-      length-bits_from bits (first_output circuit) (length circuit.gates), length-nets circuit numbering)
+  long = omega (
+    arith,
+    length-append (Zero ∷ One ∷ map level_from vector) outs,
+    length-map vector level_from,
+    count,
+    length-bits_from bits (first_output circuit) (length circuit.gates),
+    length-nets circuit numbering,
+  )
 
   input_at : (i : ℕ) → i < length vector → get_or (map level_from vector ++ outs) i X ≡ level_from (bits (suc (suc i)))
   input_at i low =
@@ -188,8 +194,14 @@ module _ (circuit : Numbered) (numbering : IsNumbering circuit) (vector : List B
   level_at (suc (suc i)) low = elim (cases_lt i (length vector)) [
     | inl input ↦ input_at i input
     | inr late ↦ output_level i (i - length vector) (omega arith)
-        (omega (arith, late, low, length-append (Zero ∷ One ∷ map level_from vector) outs, length-map vector level_from,
-        length-bits_from bits (first_output circuit) (length circuit.gates)))
+        (omega (
+          arith,
+          late,
+          low,
+          length-append (Zero ∷ One ∷ map level_from vector) outs,
+          length-map vector level_from,
+          length-bits_from bits (first_output circuit) (length circuit.gates),
+        ))
   ]
 
   gate_level : (j : ℕ) (gate : NumberedGate) → j < length circuit.gates → slice_get circuit.gates j ≡ Some gate

@@ -63,10 +63,16 @@ module _ (circuit : Numbered) (numbering : IsNumbering circuit) where
         (let all : List Net = Low ∷ High ∷ map (λ (n : Name). Named n) (circuit.netlist.inputs ++ map (λ (gate : Gate). gate.output) circuit.netlist.gates) in
         let short : number < length all = slice_get-some all number net at in
         let below : number - first_output circuit < length circuit.gate_outputs =
-        omega (arith, short, high, numbering.gate_outputs.count,
-        length-map (circuit.netlist.inputs ++ map (λ (gate : Gate). gate.output) circuit.netlist.gates) (λ (n : Name). Named n),
-        length-append circuit.netlist.inputs (map (λ (gate : Gate). gate.output) circuit.netlist.gates),
-        length-map circuit.netlist.gates (λ (gate : Gate). gate.output), length-map circuit.netlist.gates (λ (gate : Gate). Named gate.output)) in
+        omega (
+          arith,
+          short,
+          high,
+          numbering.gate_outputs.count,
+          length-map (circuit.netlist.inputs ++ map (λ (gate : Gate). gate.output) circuit.netlist.gates) (λ (n : Name). Named n),
+          length-append circuit.netlist.inputs (map (λ (gate : Gate). gate.output) circuit.netlist.gates),
+          length-map circuit.netlist.gates (λ (gate : Gate). gate.output),
+          length-map circuit.netlist.gates (λ (gate : Gate). Named gate.output),
+        ) in
         let there = slice_get-within circuit.gate_outputs (number - first_output circuit) below in
         (there.0, rw (le-ltb number (first_output circuit) high) there.1))
   ]

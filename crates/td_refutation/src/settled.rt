@@ -73,11 +73,7 @@ fn is_kept_at(
 {
     match net_named(circuit, condition.net) {
         None => true,
-        Some(net) => keeps(
-            condition.form,
-            level_at(before, net),
-            level_at(after, net),
-        ),
+        Some(net) => keeps(condition.form, level_at(before, net), level_at(after, net)),
     }
 }
 
@@ -92,21 +88,12 @@ fn is_broken_at(
 {
     match net_named(circuit, condition.net) {
         None => false,
-        Some(net) => breaks(
-            condition.form,
-            level_at(before, net),
-            level_at(after, net),
-        ),
+        Some(net) => breaks(condition.form, level_at(before, net), level_at(after, net)),
     }
 }
 
 // Whether all conditions on nets of the circuit are kept, where its nets settle so.
-fn all_kept(
-    circuit: &Circuit,
-    before: &[Level],
-    after: &[Level],
-    keep: &[NamedCondition],
-) -> bool
+fn all_kept(circuit: &Circuit, before: &[Level], after: &[Level], keep: &[NamedCondition]) -> bool
     ensures { result ≡ all_kept circuit.now before.now after.now keep.now }
 {
     keep.iter()
@@ -122,8 +109,7 @@ fn some_broken(
 ) -> bool
     ensures { result ≡ some_broken circuit.now before.now after.now keep.now }
 {
-    keep.iter()
-        .any(|condition| is_broken_at(circuit, before, after, *condition))
+    keep.iter().any(|condition| is_broken_at(circuit, before, after, *condition))
 }
 
 fn levels_of(alloc: Global, vector: &[bool]) -> Result<Vec<Level>, AllocError>
