@@ -499,6 +499,11 @@ class Pages:
 
 
 def work(tested):
+    certificates(tested)
+    if tested.wrong:
+        # A program that can't do this takes long to fail the others.
+        return
+    options(tested)
     renewals(tested)
     tools(tested)
     counted(tested)
@@ -509,9 +514,7 @@ def work(tested):
     words(tested)
     numbers(tested)
     all_are_read(tested)
-    options(tested)
     refusals(tested)
-    certificates(tested)
     with running.folder() as folder:
         pages = Pages(tested, folder)
         for name, least in PAGES.items():
