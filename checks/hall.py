@@ -230,12 +230,11 @@ def measure_program(measures, program):
             file.write(wide(1000))
         each = seconds_of([program, "worst", "wide.v", "--each"], folder)
         measures.tell("seconds of --each on 1,000 outputs", each, 0.2)
-        netlist = places.example("parity_32.v")
-        subprocess.run([program, "worst", netlist, "--cert", "c", "-q"], cwd=folder)
-        lines = text_of(os.path.join(folder, "c")).splitlines(keepends=True)
+        with open(os.path.join(folder, "wider.v"), "w", encoding="utf-8") as file:
+            file.write(wide(20000))
         with open(os.path.join(folder, "bad"), "w", encoding="utf-8") as file:
-            file.writelines([*lines[:-1], "x\n"])
-        checked = [program, "check", netlist, "bad"]
+            file.write("x\n")
+        checked = [program, "check", "wider.v", "bad"]
         plain, hinted = seconds_of(checked, folder, 5), seconds_of([*checked, "--hints"], folder, 5)
         ratio = hinted / max(plain, 0.001)
         measures.tell("a refused check with hints, beside without", ratio, 1.05)
