@@ -13,7 +13,7 @@ if __name__ == "__main__":
     sys.path.insert(0, os.path.dirname(os.path.dirname(os.path.abspath(__file__))))
 
 from bridging.blocks import BLOCKS, REAL
-from bridging.icarus import IVERILOG, VVP, Module, bits_of
+from bridging.icarus import IVERILOG, VVP, Module, bits_of, connections
 from bridging.tools import read, script, tool, write
 
 SMALL = (
@@ -39,16 +39,10 @@ def bench(module, top, count, sdf):
     in which an input keeps a level.
     """
     inputs, outputs = bits_of(module.inputs), bits_of(module.outputs)
-    ports = []
-    for side, place in ((module.inputs, "v"), (module.outputs, "o")):
-        first = 0
-        for name, numbers in side:
-            ports.append(f".{name}({place}[{first}:{first + len(numbers) - 1}])")
-            first += len(numbers)
     text = f"""`timescale 1ps/1ps
 module bench; reg [0:{count - 1}] v; wire [0:{len(outputs) - 1}] o; integer a, b, k, all, last;
 integer high [0:{count - 1}], low [0:{count - 1}]; time start; reg [0:{count - 1}] f, s;
-{top} dut ({", ".join(ports)});
+{top} dut ({connections(module)});
 always @(o) last = $time - start;
 initial begin {f'$sdf_annotate("{sdf}", dut);' if sdf else ""}
 all = -1; for (k = 0; k < {count}; k = k + 1) begin high[k] = -1; low[k] = -1; end

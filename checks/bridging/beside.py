@@ -14,7 +14,7 @@ import time
 if __name__ == "__main__":
     sys.path.insert(0, os.path.dirname(os.path.dirname(os.path.abspath(__file__))))
 
-from bridging.icarus import IVERILOG, VVP, Module, bits_of
+from bridging.icarus import IVERILOG, VVP, Module, bits_of, connections
 from bridging.tools import LIBRARY, TOP, read, script, tool, write
 
 sys.path.append(os.path.join(TOP, "build"))
@@ -28,17 +28,11 @@ PAGE = os.path.join(TOP, "docs", "BESIDE.md")
 def bench(module):
     """A test bench that prints the greatest last change of random pairs."""
     inputs, outputs = bits_of(module.inputs), bits_of(module.outputs)
-    ports = []
-    for side, place in ((module.inputs, "v"), (module.outputs, "o")):
-        first = 0
-        for name, numbers in side:
-            ports.append(f".{name}({place}[{first}:{first + len(numbers) - 1}])")
-            first += len(numbers)
     words = ", ".join(["$urandom"] * (len(inputs) // 32 + 1))
     return f"""`timescale {module.step}/{module.step}
 module bench; reg [0:{len(inputs) - 1}] v; wire [0:{len(outputs) - 1}] o;
 integer k, last, all, dropped; time start;
-{module.name} dut ({", ".join(ports)});
+{module.name} dut ({connections(module)});
 always @(o) last = $time - start;
 initial begin all = 0; k = {SEED}; dropped = $urandom(k);
 for (k = 0; k < {PAIRS}; k = k + 1) begin

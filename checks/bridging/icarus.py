@@ -37,6 +37,17 @@ def bits_of(ports):
     return [(name, number) for name, numbers in ports for number in numbers]
 
 
+def connections(module):
+    """The ports of an instance, by name, with the inputs in a vector `v` and the outputs in `o`."""
+    ports = []
+    for side, place in ((module.inputs, "v"), (module.outputs, "o")):
+        first = 0
+        for name, numbers in side:
+            ports.append(f".{name}({place}[{first}:{first + len(numbers) - 1}])")
+            first += len(numbers)
+    return ", ".join(ports)
+
+
 def bench(module, pairs):
     """A test bench that writes for each pair when each output changes last after the second vector,
     -1 where it never does.
