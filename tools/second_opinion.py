@@ -22,9 +22,9 @@ from collections import namedtuple
 from enum import Enum
 
 from second_domains import RUN, bound, delay_of_pair, lasts, latest_of, quickest_to, signals
-from second_levels import X
+from second_levels import X, settled
 from second_netlist import BILLION, Delays, Refusal, read_circuit
-from second_spans import STEPS, VARIABLES, BadStep, Leaf
+from second_spans import STEPS, VARIABLES, BadStep, Leaf, nets_of
 
 LARGEST = 10**18
 if hasattr(sys, "set_int_max_str_digits"):
@@ -37,7 +37,7 @@ Fault = Enum("Fault", "Syntax UnexpectedEnd Trailing NumberTooLarge Version TooL
 DIGITS = "0123456789"
 
 # What is asked: a cube of pins, for each input whether it is held, the flips, and the moments.
-Question = namedtuple("Question", "pins held flips moments")
+Question = namedtuple("Question", "pins held flips moments keep", defaults=[()])
 # How the netlist is read that is asked about: the default delays, and the numbers of the outputs,
 # None for all.
 Terms = namedtuple("Terms", "defaults outputs")
@@ -176,6 +176,21 @@ def question_in(text, version, inputs):
     )
 
 
+def conditions_in(text):
+    """The line `keep` of version 4: each condition is a net's number and a form."""
+    text.word("keep ")
+    if text.text.startswith("n", text.place):
+        text.word("none\n")
+        return []
+    keep, end = [], " "
+    while end == " ":
+        net = text.number("", " ")
+        first = text.one_of("01.=")
+        keep.append((net, first + text.one_of({"=": "=", ".": "01"}.get(first, "01."))))
+        end = text.one_of(" \n")
+    return keep
+
+
 def lines_of_leaf(text):
     """The lines after a line `x`, up to `q`."""
     lines = []
@@ -225,7 +240,7 @@ def read_certificate(text):
     terms = terms_in(text) if version == 4 else None
     question = question_in(text, version, inputs)
     if version == 4:
-        text.word("keep none\n")
+        question = question._replace(keep=conditions_in(text))
     asked = text.text[begin : text.place]
     time = text.number("time ", "\n")
     high = text.number("high ", "\n") if version == 4 else time
@@ -258,6 +273,39 @@ def has_admitted(question, cube):
     return all(allowed) and not any(flips) and len(flips) <= question.flips
 
 
+def is_broken(circuit, question, cube):
+    """Whether some net settles otherwise than a condition has it, X for free bits."""
+    if not question.keep:
+        return False
+    nets = nets_of(circuit)
+    before, after = (settled(circuit, cube[side::2]) for side in (0, 1))
+    return any(
+        breaks(form, (before[nets[number]], after[nets[number]]))
+        for number, form in question.keep
+    )
+
+
+def breaks(form, levels):
+    """Whether known levels aren't as a condition has them."""
+    if form == "==":
+        return set(levels) == {0, 1}
+    return any(
+        wanted != "." and level == 1 - int(wanted) for wanted, level in zip(form, levels)
+    )
+
+
+def may_lie(circuit, question, cube):
+    """Whether an admitted pair may lie in the cube."""
+    return has_admitted(question, cube) and not is_broken(circuit, question, cube)
+
+
+def is_fit(circuit, keep):
+    """Whether conditions rise, and each is on an input or a gate's output."""
+    end = 2 + circuit.inputs + len(circuit.gates)
+    rises = all(this < that for this, that in zip(keep, keep[1:]))
+    return rises and all(2 <= number < end for number, _ in keep)
+
+
 def judge_in_leaf(leaf, high, line):
     """What is wrong with a line of a leaf by spans, None where nothing is."""
     letter, _, number = line
@@ -278,7 +326,7 @@ def judge_line(circuit, question, high, cube, line):
     if letter == "s":
         return None if number < len(cube) and cube[number] == X else Verdict.BadPosition
     if letter == "n":
-        return Verdict.LeafNotEmpty if has_admitted(question, cube) else None
+        return Verdict.LeafNotEmpty if may_lie(circuit, question, cube) else None
     if letter == "p":
         if X in cube:
             return Verdict.NotAPoint
@@ -299,9 +347,11 @@ def verdict(circuit, told, certificate):
     question, high, terms = certificate.question, certificate.high, certificate.terms
     if (circuit.inputs, len(circuit.gates)) != (certificate.inputs, certificate.gates):
         return Verdict.OtherCircuit, None
+    if not is_fit(circuit, question.keep):
+        return Verdict.OtherCircuit, None
     if terms and terms != told:
         return Verdict.OtherQuestion, 3 if terms.defaults != told.defaults else 4
-    if not has_admitted(question, certificate.pair):
+    if not may_lie(circuit, question, certificate.pair):
         return Verdict.PairNotAdmitted, None
     if delay_of_pair(circuit, certificate.pair, question.moments) != certificate.time:
         return Verdict.PairTime, None

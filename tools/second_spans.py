@@ -101,14 +101,19 @@ def is_sure(circuit, target, spans):
     return any(first <= target.first and target.last <= last for first, last in sure)
 
 
+def nets_of(circuit):
+    """The net of each number of the text."""
+    return [circuit.inputs, circuit.inputs + 1, *range(circuit.inputs), *circuit.written]
+
+
 class Leaf:
     """A leaf under way, of a cube of levels and a question."""
 
     def __init__(self, circuit, question, cube):
         self.circuit, self.cube = circuit, cube
         self.held, self.flips = question.held, question.flips
-        # The net of each number of the text.
-        self.nets = [circuit.inputs, circuit.inputs + 1, *range(circuit.inputs), *circuit.written]
+        self.nets = nets_of(circuit)
+        self.keep = [(self.nets[number], form) for number, form in question.keep]
         signals = signals_of(EDGES, circuit, self.inputs(question.moments))
         self.early = [signal.earliest if signal.ends[X] else EVER for signal in signals]
         self.ends = [signal.ends[:X] for signal in signals]
@@ -226,8 +231,17 @@ class Leaf:
         require(too_many or any(map(and_, differ, self.held)))
         return clause
 
-    def by_conditions(self, *_):
-        raise BadStep  # This version has no conditions.
+    def by_conditions(self, *clause):
+        said = [(self.variable_of(literal), 1 - literal % 2) for literal in clause]
+        require(len(said) in (1, 2) and all(variable.letter in "if" for variable, _ in said))
+        (one, level), (other, another) = said[0], said[-1]
+        if len(said) == 1:
+            side = "if".index(one.letter)
+            require((one.of, str(level)) in {(net, form[side]) for net, form in self.keep})
+        else:
+            require((one.letter, other.letter) == ("i", "f") and one.of == other.of)
+            require(level != another and (one.of, "==") in self.keep)
+        return clause
 
     def by_hints(self, count, *numbers):
         return self.shown(count, numbers)

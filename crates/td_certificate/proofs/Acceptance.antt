@@ -17,8 +17,6 @@ use Rattle.td_domain.specs.declared.cubes.Trit.{Trit}
 use Rattle.td_domain.specs.declared.cubes.Trit.TheVariants.{Zero, One, Free}
 use Rattle.td_domain.specs.Pairs.{Pair}
 use Rattle.td_domain.specs.Cubes.{Allows, AllowsBits, IsIn, IsPoint}
-use Rattle.td_domain.specs.Admits.{Admitted, IsAdmitted}
-use Rattle.td_domain.specs.Worst.{IsUpperBound}
 use Rattle.td_domain.specs.Together.{both_functions}
 use Rattle.td_domain.specs.BothLaws.{both_covers_gate, both_quiet}
 use Rattle.td_domain.proofs.Soundness.{no_later}
@@ -35,7 +33,11 @@ use Rattle.td_edges.specs.EdgeLaws as edges_laws
 use Rattle.td_certificate.specs.declared.tree.BoundedBy.{BoundedBy}
 use Rattle.td_certificate.specs.declared.tree.BoundedBy.TheVariants as by
 use Rattle.td_certificate.specs.declared.certificate.Certificate.{Certificate}
+use Rattle.td_refutation.specs.Asking.{Asking, IsKept, IsAskedAbout}
+use Rattle.td_refutation.proofs.Asking.{nothing_kept}
+use Rattle.td_refutation.proofs.Keeping.{none_kept}
 use Rattle.td_refutation.proofs.Steps.{refuted_is_bounded}
+use Rattle.td_certificate.specs.Questions.{asking_of}
 use Rattle.td_certificate.specs.Trees.{Tree, Split, Bound, Point, Empty, RefutedLeaf, lines_of}
 use Rattle.td_certificate.specs.Walks.{lines_from}
 use Rattle.td_certificate.specs.Accepts.{IsBoundBy, IsGood, HasDelay, setting_of, Accepts, IsClaim, AcceptedIsTrue, AcceptedIsWorst}
@@ -154,9 +156,9 @@ same_delay given acyclic fit first second others laters this that f_fits s_fits 
 -- ---- one pair, down the tree
 
 module _ (circuit : Numbered) (numbering : IsNumbering circuit) (fit : AreMoments circuit.netlist circuit.moments) (acyclic : IsAcyclic circuit.netlist)
-    (admit : Admitted) (most : ℕ) (pair : Pair) (admitted : IsAdmitted admit pair)
+    (asking : Asking) (most : ℕ) (pair : Pair) (about : IsAskedAbout circuit.netlist asking pair)
     (delay : ℕ) (is : IsDelayOfBits (setting circuit) pair.first pair.second delay)
-    (helds : length admit.held ≡ length circuit.netlist.inputs) where
+    (helds : length asking.admit.held ≡ length circuit.netlist.inputs) where
   -- no bound is below the pair's delay
   below_bound : (domain : BoundedBy) (cube : List Trit) → length cube ≡ 2 * length circuit.netlist.inputs → IsIn pair cube
       → (bound : ℕ) → IsBoundBy domain (setting circuit) cube (Some bound) → delay ≤ bound
@@ -203,10 +205,10 @@ module _ (circuit : Numbered) (numbering : IsNumbering circuit) (fit : AreMoment
       (omega (arith, count, long.0)) (omega (arith, count, long.0, long.1)) same.0 same.1 is has.is
 
   below : (tree : Tree) (cube : List Trit) → length cube ≡ 2 * length circuit.netlist.inputs → IsIn pair cube
-      → AllByRecursion (IsGood (setting circuit) admit most) (lines_of cube tree) → delay ≤ most
+      → AllByRecursion (IsGood (setting circuit) asking most) (lines_of cube tree) → delay ≤ most
   unfolding lines_of
   below (Split position zero_side one_side) cube count is_in good =
-      let sides = all_parts (IsGood (setting circuit) admit most) (lines_of (set cube position Zero) zero_side)
+      let sides = all_parts (IsGood (setting circuit) asking most) (lines_of (set cube position Zero) zero_side)
       (lines_of (set cube position One) one_side) good.1 in
       elim (side cube position pair.first pair.second good.0.splits is_in) [
         | low here ↦ below zero_side (set cube position Zero) (length-set cube position Zero ∙ count) here sides.0
@@ -217,9 +219,10 @@ module _ (circuit : Numbered) (numbering : IsNumbering circuit) (fit : AreMoment
       omega (arith, below_bound domain cube count is_in least.bound least.is, least.within, good.0.within)
   below (Point time) cube count is_in good =
       omega (arith, at_point cube time count good.0.one_pair is_in good.0.of_cube, good.0.within)
-  below Empty cube count is_in good = absurd (good.0.of_cube (pair, admitted, is_in))
+  below Empty cube count is_in good =
+      absurd (good.0.of_cube ((pair, about.admitted, is_in), none_kept circuit numbering asking.keep cube pair count is_in about.kept))
   below (RefutedLeaf refuted) cube count is_in good =
-      let under : delay ≤ refuted.bound = refuted_is_bounded (setting circuit) admit cube refuted.steps refuted.bound fit helds count good.0.of_cube pair delay admitted is_in is in
+      let under : delay ≤ refuted.bound = refuted_is_bounded (setting circuit) asking cube refuted.steps refuted.bound fit helds count good.0.of_cube pair delay about is_in is in
       omega (arith, under, good.0.within)
 
 -- ---- all pairs
@@ -230,21 +233,21 @@ at_moments netlist moments = record { netlist = netlist; moments = moments }
 by_number : (circuit : Numbered) → IsNumbering circuit → AreMoments circuit.netlist circuit.moments → IsAcyclic circuit.netlist → (c : Certificate)
     → c.question.moments ≡ circuit.moments → Accepts circuit.netlist c → IsClaim (setting circuit) c
 by_number circuit numbering fit acyclic c moments accepts =
-    let admit : Admitted = c.question.admit in
+    let asking : Asking = asking_of c.question in
     let given : setting_of circuit.netlist c ≡ setting circuit = ap (λ ms. at_moments circuit.netlist ms) moments in
     let reached : IsDelayOfBits (setting circuit) c.pair.first c.pair.second c.time =
     subst (λ s. IsDelayOfBits s c.pair.first c.pair.second c.time) given accepts.reached in
-    let long = cube_fits admit.pins c.pair.first c.pair.second accepts.admitted.pinned in
+    let long = cube_fits asking.admit.pins c.pair.first c.pair.second accepts.admitted.admitted.pinned in
     let fits = vector_fits (setting circuit) c.pair.first c.pair.second c.time reached in
     let made = trees_are_counted.has_tree c.tree accepts.tree in
-    let good : AllByRecursion (IsGood (setting circuit) admit c.high) (lines_of admit.pins made.0) =
-    subst (AllByRecursion (IsGood (setting circuit) admit c.high)) (ap (lines_from (admit.pins ∷ [])) (sym made.1) ∙ lines_are_walked made.0 admit.pins)
-    (subst (λ s. AllByRecursion (IsGood s admit c.high) (lines_from (admit.pins ∷ []) c.tree)) given accepts.good) in
+    let good : AllByRecursion (IsGood (setting circuit) asking c.high) (lines_of asking.admit.pins made.0) =
+    subst (AllByRecursion (IsGood (setting circuit) asking c.high)) (ap (lines_from (asking.admit.pins ∷ [])) (sym made.1) ∙ lines_are_walked made.0 asking.admit.pins)
+    (subst (λ s. AllByRecursion (IsGood s asking c.high) (lines_from (asking.admit.pins ∷ []) c.tree)) given accepts.good) in
     record {
       admitted = accepts.admitted;
       reached = reached;
-      bounded = λ pair delay admitted is.
-          below circuit numbering fit acyclic admit c.high pair admitted delay is (sym accepts.size.inputs) made.0 admit.pins (omega (arith, long.0, fits)) admitted.pinned good;
+      bounded = λ pair delay about is.
+          below circuit numbering fit acyclic asking c.high pair about delay is (sym accepts.size.inputs) made.0 asking.admit.pins (omega (arith, long.0, fits)) about.admitted.pinned good;
     }
 
 pub accepted_is_true : AcceptedIsTrue
@@ -259,11 +262,14 @@ accepted_is_true netlist c well_formed acyclic fit accepts =
     (sym moments_are) (subst (λ (n : Netlist). Accepts n c) (sym net_is) accepts))
 
 pub accepted_is_worst : AcceptedIsWorst
-accepted_is_worst netlist c well_formed acyclic fit accepts same =
+accepted_is_worst netlist c well_formed acyclic fit accepts none same =
     let claim = accepted_is_true netlist c well_formed acyclic fit accepts in
     record {
       pair = c.pair;
-      admitted = claim.admitted;
+      admitted = claim.admitted.admitted;
       reached = claim.reached;
-      greatest = subst (IsUpperBound (setting_of netlist c) c.question.admit) same claim.bounded;
+      greatest = λ pair delay admitted is.
+          let about : IsAskedAbout netlist (asking_of c.question) pair =
+          record { admitted = admitted; kept = subst (λ keep. IsKept netlist keep pair) (sym none) (nothing_kept netlist pair) } in
+          subst (λ (n : ℕ). delay ≤ n) same (claim.bounded pair delay about is);
     }

@@ -1,6 +1,6 @@
 -- Where all pairs are admitted, each cube has one: what the first version of a text is about.
-use Rattle.std.proofs.Common.{◌≡◌, ℕ, ◌*◌, ◌≤◌, Bool, true, false, if◌then◌else◌, List, [], ◌∷◌, length, refl, arith}
-use Rattle.std.specs.Prelude.{◌&&◌, ◌==◌, not, Option, Some, None}
+use Rattle.std.proofs.Common.{◌≡◌, ℕ, ◌*◌, ◌≤◌, Bool, true, false, if◌then◌else◌, List, [], ◌∷◌, length, refl, ap, sym, ◌∙◌, arith}
+use Rattle.std.specs.Prelude.{◌&&◌, ◌==◌, not, slice_get, Option, Some, None}
 use Rattle.std.specs.List.{list_all}
 use Rattle.std.proofs.lemmas.Bool.{eqb-true, and_parts}
 use Rattle.td_domain.specs.declared.cubes.Trit.{Trit}
@@ -8,8 +8,12 @@ use Rattle.td_domain.specs.declared.cubes.Trit.TheVariants.{Zero, One, Free}
 use Rattle.td_domain.specs.Cubes.{Allows, AllowsBits}
 use Rattle.td_domain.specs.Admits.{Admitted, flips_of, AreHeld, HasAdmitted}
 use Rattle.td_domain.proofs.Flips.{one_flip}
+use Rattle.td_gates.proofs.Places.{none-some}
+use Rattle.td_nets.specs.Netlist.{Netlist}
+use Rattle.td_refutation.specs.declared.conditions.NamedCondition.{NamedCondition}
+use Rattle.td_refutation.specs.Asking.{MayLie}
 use Rattle.td_certificate.specs.declared.question.Version.TheVariants.{First, Second, Third, Fourth}
-use Rattle.td_certificate.specs.Questions.{Terms, Question, inputs_of, is_free, holds_none, admits_all, is_at_once, version_by, version_of}
+use Rattle.td_certificate.specs.Questions.{Terms, Question, inputs_of, is_free, holds_none, admits_all, is_at_once, version_by, version_of, keep_by, asking_of}
 
 some_allowed : (p : Trit) → (bit : Bool) × Allows p bit
 some_allowed Zero = (false, tt)
@@ -80,3 +84,16 @@ has_admitted question cube first pins size =
     let some = some_pair admit.pins admit.held cube pins size free.0 loose.0 in
     let few = some.few in
     (record { first = some.before; second = some.after }, record { pinned = some.pinned; held = some.kept; few = omega arith }, some.inside)
+
+no_keep : (terms : Option Terms) (admit : Admitted) (moments : List ℕ) → version_by terms admit moments ≡ First → keep_by terms ≡ []
+no_keep None admit moments first = refl
+no_keep (Some terms) admit moments first = absurd (let e : Fourth ≡ First = first in cc)
+
+-- in what the first version tells, a pair may lie in each cube
+pub may_lie : (netlist : Netlist) (question : Question) (cube : List Trit) → version_of question ≡ First → length question.admit.pins ≡ 2 * inputs_of question
+    → length cube ≡ 2 * inputs_of question → MayLie netlist (asking_of question) cube
+may_lie netlist question cube first pins size = (
+  has_admitted question cube first pins size,
+  λ broken. absurd (none-some broken.condition
+      (ap (λ (keep : List NamedCondition). slice_get keep broken.place) (sym (no_keep question.terms question.admit question.moments first)) ∙ broken.stands)),
+)

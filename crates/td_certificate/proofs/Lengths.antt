@@ -1,10 +1,13 @@
 -- Lengths of texts.
-use Rattle.std.proofs.Common.{◌≡◌, ℕ, zero, suc, ◌+◌, ◌*◌, ◌<◌, ◌≤◌, ◌^◌, Bool, List, [], ◌∷◌, ◌++◌, length, length-append, Option, Some, None, ap, subst, arith}
+use Rattle.std.proofs.Common.{◌≡◌, ℕ, zero, suc, ◌+◌, ◌*◌, ◌<◌, ◌≤◌, ◌^◌, Bool, List, [], ◌∷◌, ◌++◌, length, length-append, Option, Some, None, refl, ap, subst, arith}
 use Rattle.std.specs.Prelude.{codes, decimal, map}
 use Rattle.std.specs.List.{AllByRecursion}
 use Rattle.std.proofs.lemmas.List.{length-map}
 use Rattle.std.proofs.lemmas.Fmt.{length-decimal-le}
 use Rattle.td_domain.specs.declared.cubes.Trit.{Trit}
+use Rattle.td_spans.specs.declared.condition.Form.{Form}
+use Rattle.td_spans.specs.declared.condition.Form.TheVariants.{Levels, Equal}
+use Rattle.td_refutation.specs.declared.conditions.NamedCondition.{NamedCondition}
 use Rattle.td_certificate.specs.declared.tree.BoundedBy.TheVariants.{Arrival, Possible, Both, Edges, EdgesAndPossible}
 use Rattle.td_certificate.specs.declared.tree.Node.{Node}
 use Rattle.td_certificate.specs.declared.tree.Node.TheVariants as node
@@ -13,8 +16,8 @@ use Rattle.td_certificate.specs.declared.question.Version.TheVariants.{First, Se
 use Rattle.td_certificate.specs.declared.certificate.Certificate.{Certificate}
 use Rattle.td_gates.specs.Delays.{IsInRange}
 use Rattle.td_certificate.specs.Questions.{Terms, Question, inputs_of}
-use Rattle.td_certificate.specs.Text.{bit, row, trit, first_trits, second_trits, hold, numbers, outputs}
-use Rattle.td_certificate.specs.Spelling.{inputs, version_in, FirstField, SecondField, HoldField, FlipsField, AtField, KeepField, terms_or_plain, terms_of, plain_terms, default_line, output_line, field_line, ended, question_text, greatest, latest, AreOutputs, AreTerms, IsNode, HasSpelling}
+use Rattle.td_certificate.specs.Text.{bit, row, trit, first_trits, second_trits, hold, numbers, outputs, form_text, condition, conditions}
+use Rattle.td_certificate.specs.Spelling.{inputs, version_in, FirstField, SecondField, HoldField, FlipsField, AtField, KeepField, terms_or_plain, terms_of, plain_terms, default_line, output_line, keep_line, field_line, ended, question_text, greatest, latest, AreOutputs, IsCondition, AreConditions, AreTerms, IsNode, HasSpelling}
 use Rattle.td_certificate.specs.Lengths.{IsShort, AreFew, HaveFew, SearchedTextsFit, RefutedTextsFit}
 use Rattle.td_certificate.specs.Steps.{Refuted, steps_text}
 use Rattle.td_certificate.proofs.FieldCodes.{number_text}
@@ -169,9 +172,46 @@ plain_range = record { least_rise = omega arith; greatest_rise = omega arith; le
 terms_length : (terms : Option Terms) → AreTerms terms → HaveFew terms
     → length (ended (default_line (terms_or_plain terms))) + length (ended (output_line (terms_or_plain terms))) ≤ 200052
 terms_length None are few = omega (arith, default_length plain_terms plain_range, output_length plain_terms tt tt)
-terms_length (Some terms) are few = omega (arith, default_length terms are.0, output_length terms are.1 few)
+terms_length (Some terms) are few = omega (arith, default_length terms are.0, output_length terms are.1 few.0)
 
-lines_length : (q : Question) (v : Version) → IsAsked q → length (question_text v q) ≤ 278500
+form_length : (form : Form) → length (form_text form) ≡ 2
+form_length (Levels first second) = refl
+form_length Equal = refl
+
+condition_length : (asked : NamedCondition) → IsCondition asked → length (condition asked) ≤ 22
+condition_length asked is =
+    omega (
+      arith,
+      length-append (decimal asked.net ++ codes " ") (form_text asked.form),
+      length-append (decimal asked.net) (codes " "),
+      form_length asked.form,
+      length-decimal-le 19 asked.net (omega arith) (omega (arith, is.0)) (omega arith),
+    )
+
+conditions_length : (keep : List NamedCondition) → AreConditions keep → length (conditions keep) ≤ 4 + 23 * length keep
+conditions_length [] are = omega arith
+conditions_length (asked ∷ []) are = omega (arith, condition_length asked are.0)
+conditions_length (asked ∷ next ∷ others) are =
+    omega (
+      arith,
+      condition_length asked are.0,
+      conditions_length (next ∷ others) are.1,
+      length-append (condition asked ++ codes " ") (conditions (next ∷ others)),
+      length-append (condition asked) (codes " "),
+    )
+
+keep_length : (terms : Option Terms) → AreTerms terms → HaveFew terms → length (ended (keep_line (terms_or_plain terms))) ≤ 115010
+keep_length None are few = omega arith
+keep_length (Some terms) are few =
+    omega (
+      arith,
+      length-append (keep_line terms) (10 ∷ []),
+      length-append (codes "keep ") (conditions terms.keep),
+      conditions_length terms.keep are.2,
+      few.1,
+    )
+
+lines_length : (q : Question) (v : Version) → IsAsked q → length (question_text v q) ≤ 393500
 lines_length q First has = omega arith
 lines_length q Second has = omega (arith, admit_length q has)
 lines_length q Third has = omega (arith, dated_length q has)
@@ -183,6 +223,7 @@ lines_length q Fourth has =
       length-append (ended (default_line (terms_of q))) (ended (output_line (terms_of q))),
       length-append (question_text Third q) (ended (field_line q KeepField)),
       terms_length q.terms has.terms has.few,
+      keep_length q.terms has.terms has.few,
       dated_length q has,
     )
 
@@ -201,9 +242,9 @@ high_length Third high small = omega arith
 high_length Fourth high small = number_length (codes "high ") 10 high small
 
 head_length : (v : Version) (c : Certificate) → HasSpelling c → HaveFew c.question.terms → c.time < 10 ^ 15 → c.high < 10 ^ 15
-    → length (lines_text v c) ≤ 290600 + length (nodes_text c.tree)
+    → length (lines_text v c) ≤ 405600 + length (nodes_text c.tree)
 head_length v c has few small low =
-    let question : length (question_text v c.question) ≤ 278500 =
+    let question : length (question_text v c.question) ≤ 393500 =
     lines_length c.question v (record { inputs = has.inputs; pins = has.pins; flips = has.flips; count = has.count; moments = has.moments; terms = has.terms; few = few }) in
     let inputs_short : length (number_text 32 (inputs c)) ≤ 16 = number_length [] 32 (inputs c) (omega (arith, has.inputs)) in
     let gates : length (number_text 10 c.gates) ≤ 16 = number_length [] 10 c.gates (omega (arith, has.gates)) in

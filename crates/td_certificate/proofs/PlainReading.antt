@@ -10,10 +10,17 @@ use Rattle.td_certificate.specs.declared.certificate.Certificate.{Certificate}
 use Rattle.td_certificate.specs.declared.fields.Reason.TheVariants.{Syntax, NumberTooLarge}
 use Rattle.td_certificate.specs.declared.fields.Reason.TheVariants as reason
 use Rattle.td_certificate.specs.Trees.{sides}
-use Rattle.td_certificate.specs.Questions.{Question, all_at_once}
+use Rattle.td_spans.specs.declared.condition.Form.{Form}
+use Rattle.td_spans.specs.declared.condition.Form.TheVariants.{Levels, Equal}
+use Rattle.td_refutation.specs.declared.conditions.NamedCondition.{NamedCondition}
+use Rattle.td_certificate.specs.declared.conditions.Sign.{Sign}
+use Rattle.td_certificate.specs.declared.conditions.Sign.TheVariants as sign
+use Rattle.td_certificate.specs.Questions.{Terms, Question, all_at_once}
+use Rattle.td_certificate.specs.Text.{level_byte}
+use Rattle.td_certificate.specs.ConditionReading.{sign_byte, signs, second_levels, behind_sign, form_at, condition_by, condition_at, conditions_at, kept_at}
 use Rattle.td_domain.specs.Cubes.{weave}
 use Rattle.td_certificate.specs.Spelling.{greatest, latest}
-use Rattle.td_certificate.specs.Reading.{Ends, Wrong, Reading, ◌>>=◌, literal, digits_at, number_at, begins_with_zero, number_from, taken, char_at, chars_at, trit_of, hold_of, bit_of, chars_behind, letter_at, number_behind, row_behind, because, has_inputs, most_flips, flips_at, with_pins, admit_at, close_of, moment_at, moments_at, at_line, asked, dated_at, steps_at, delays, default_at, outputs_at, terms_by, terms_at, with_terms, told_at, question_at, Tag, SplitTag, BoundTag, PointTag, EmptyTag, RefutedTag, written_as, tag_at, behind_tag, node_at, leaves_in, high_at, nodes_within, nodes_at, with_fields, lines_at}
+use Rattle.td_certificate.specs.Reading.{Ends, Wrong, Reading, ◌>>=◌, literal, digits_at, number_at, begins_with_zero, number_from, taken, char_at, chars_at, trit_of, hold_of, bit_of, chars_behind, letter_at, number_behind, row_behind, because, has_inputs, most_flips, flips_at, with_pins, admit_at, close_of, moment_at, moments_at, at_line, asked, dated_at, steps_at, delays, default_at, outputs_at, terms_by, terms_at, with_keep, with_terms, told_at, question_at, Tag, SplitTag, BoundTag, PointTag, EmptyTag, RefutedTag, written_as, tag_at, behind_tag, node_at, leaves_in, high_at, nodes_within, nodes_at, with_fields, lines_at}
 use Rattle.td_certificate.specs.StepReading.{ended_by, until_within, until_at, open_digits_at, open_number_at, numbers_at, closing_byte, numbers_after, spaced_at, LineTag, StepTag, BoundEndTag, line_byte, line_tags, StepLine, BoundLine, behind_line_tag, refuted_line_at, is_bound_line, bound_alone, step_before, refuted_at}
 use Rattle.td_certificate.proofs.Loops.{done}
 use Rattle.td_certificate.proofs.Codes.{bind_err}
@@ -234,13 +241,54 @@ terms_plain bytes =
     (λ default. plain_then (literal (codes "output ") default.1) (λ word. outputs_at word.1 >>= λ outputs. Ok (terms_by default.0 outputs.0, outputs.1)) (literal_plain (codes "output ") default.1)
     (λ word. plain_then (outputs_at word.1) (λ outputs. Ok (terms_by default.0 outputs.0, outputs.1)) (outputs_plain word.1) (λ outputs. plain_ok (terms_by default.0 outputs.0, outputs.1))))
 
+behind_sign_plain : (begins : Sign) (bytes : List ℕ) → Plain (behind_sign begins bytes)
+unfolding behind_sign
+behind_sign_plain (sign.Level first) bytes =
+    plain_then (char_at (λ b. written_as level_byte (second_levels first) b) bytes) (λ second. Ok (Levels first second.0, second.1)) (char_plain _ bytes)
+    (λ second. plain_ok (Levels first second.0, second.1))
+behind_sign_plain sign.Equal bytes = plain_then (literal (codes "=") bytes) (λ word. Ok (Equal, word.1)) (literal_plain (codes "=") bytes) (λ word. plain_ok (Equal, word.1))
+
+form_plain : (bytes : List ℕ) → Plain (form_at bytes)
+unfolding form_at
+form_plain bytes =
+    plain_then (char_at (λ b. written_as sign_byte signs b) bytes) (λ begins. behind_sign begins.0 begins.1) (char_plain _ bytes) (λ begins. behind_sign_plain begins.0 begins.1)
+
+abbrev close_condition : ℕ → Form × List ℕ → Reading (NamedCondition × Bool)
+close_condition net form = char_at (λ b. written_as closing_byte (true ∷ false ∷ []) b) form.1 >>= λ close. Ok ((condition_by net form.0, close.0), close.1)
+
+condition_plain : (bytes : List ℕ) → Plain (condition_at bytes)
+unfolding condition_at
+condition_plain bytes =
+    plain_then (number_at greatest 32 bytes) (λ net. form_at net.1 >>= close_condition net.0) (number_plain greatest 32 bytes)
+    (λ net. plain_then (form_at net.1) (close_condition net.0) (form_plain net.1)
+    (λ form. plain_then (char_at (λ b. written_as closing_byte (true ∷ false ∷ []) b) form.1) (λ close. Ok ((condition_by net.0 form.0, close.0), close.1)) (char_plain _ form.1)
+    (λ close. plain_ok ((condition_by net.0 form.0, close.0), close.1))))
+
+conditions_plain : (bytes : List ℕ) → Plain (conditions_at bytes)
+unfolding conditions_at
+conditions_plain bytes = until_plain (λ x. x.1) (λ x. x.0 ∷ []) (λ x others. x.0 ∷ others) condition_at condition_plain bytes
+
+abbrev no_conditions : Unit {0} × List ℕ → Reading (List NamedCondition)
+no_conditions word = Ok ([], word.1)
+
+kept_plain : (bytes : List ℕ) → Plain (kept_at bytes)
+unfolding kept_at
+kept_plain [] = plain_ends
+kept_plain (b ∷ rest) =
+    plain_if (eqb b 110) (literal (codes "none\n") (b ∷ rest) >>= no_conditions) (conditions_at (b ∷ rest))
+    (plain_then (literal (codes "none\n") (b ∷ rest)) no_conditions (literal_plain (codes "none\n") (b ∷ rest)) (λ word. plain_ok ([], word.1)))
+    (conditions_plain (b ∷ rest))
+
+abbrev with_kept : Terms → Question → List NamedCondition × List ℕ → Reading Question
+with_kept terms question keep = Ok (with_terms (with_keep keep.0 terms) question, keep.1)
+
 told_plain : (i : ℕ) (bytes : List ℕ) → Plain (told_at i bytes)
 unfolding told_at
 told_plain i bytes =
-    plain_then (terms_at bytes) (λ terms. dated_at Fourth false i terms.1 >>= λ question. literal (codes "keep none\n") question.1 >>= λ keep. Ok (with_terms terms.0 question.0, keep.1)) (terms_plain bytes)
-    (λ terms. plain_then (dated_at Fourth false i terms.1) (λ question. literal (codes "keep none\n") question.1 >>= λ keep. Ok (with_terms terms.0 question.0, keep.1)) (dated_plain Fourth false i terms.1)
-    (λ question. plain_then (literal (codes "keep none\n") question.1) (λ keep. Ok (with_terms terms.0 question.0, keep.1)) (literal_plain (codes "keep none\n") question.1)
-    (λ keep. plain_ok (with_terms terms.0 question.0, keep.1))))
+    plain_then (terms_at bytes) (λ terms. dated_at Fourth false i terms.1 >>= λ question. literal (codes "keep ") question.1 >>= λ word. kept_at word.1 >>= with_kept terms.0 question.0) (terms_plain bytes)
+    (λ terms. plain_then (dated_at Fourth false i terms.1) (λ question. literal (codes "keep ") question.1 >>= λ word. kept_at word.1 >>= with_kept terms.0 question.0) (dated_plain Fourth false i terms.1)
+    (λ question. plain_then (literal (codes "keep ") question.1) (λ word. kept_at word.1 >>= with_kept terms.0 question.0) (literal_plain (codes "keep ") question.1)
+    (λ word. plain_then (kept_at word.1) (with_kept terms.0 question.0) (kept_plain word.1) (λ keep. plain_ok (with_terms (with_keep keep.0 terms.0) question.0, keep.1)))))
 
 question_plain : (v : Version) (i : ℕ) (bytes : List ℕ) → Plain (question_at v i bytes)
 unfolding question_at

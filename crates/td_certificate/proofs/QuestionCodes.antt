@@ -8,18 +8,21 @@ use Rattle.std.proofs.lemmas.Bool.{eqb-true, eq-eqb, ne_eqb, and_parts}
 use Rattle.td_domain.specs.declared.cubes.Trit.{Trit}
 use Rattle.td_domain.specs.declared.cubes.Trit.TheVariants.{Zero, One, Free}
 use Rattle.td_domain.specs.Admits.{Admitted, all_pairs}
+use Rattle.td_refutation.specs.declared.conditions.NamedCondition.{NamedCondition}
 use Rattle.td_certificate.specs.declared.question.Version.{Version}
 use Rattle.td_certificate.specs.declared.question.Version.TheVariants.{First, Second, Third, Fourth}
 use Rattle.td_certificate.specs.declared.fields.Reason.TheVariants.{Syntax}
 use Rattle.td_certificate.specs.Questions.{Terms, Question, inputs_of, is_free, holds_none, admits_all, is_at_once, plain_version, version_by, version_of, all_at_once}
 use Rattle.td_domain.specs.Cubes.{weave}
-use Rattle.td_certificate.specs.Text.{row, trit, first_trits, second_trits, hold, numbers}
-use Rattle.td_certificate.specs.Spelling.{DefaultField, OutputField, FlipsField, AtField, KeepField, fields_of, terms_or_plain, terms_of, AreTerms, field_line, ended, text_of, question_text}
-use Rattle.td_certificate.specs.Reading.{◌>>=◌, literal, number_behind, trit_of, hold_of, row_behind, has_inputs, most_flips, flips_at, with_pins, admit_at, at_line, asked, dated_at, terms_at, with_terms, told_at, question_at}
+use Rattle.td_certificate.specs.Text.{row, trit, first_trits, second_trits, hold, numbers, conditions}
+use Rattle.td_certificate.specs.Spelling.{DefaultField, OutputField, FlipsField, AtField, KeepField, fields_of, terms_or_plain, terms_of, AreConditions, AreTerms, field_line, ended, text_of, question_text}
+use Rattle.td_certificate.specs.Reading.{◌>>=◌, literal, number_behind, trit_of, hold_of, row_behind, has_inputs, most_flips, flips_at, with_pins, admit_at, at_line, asked, dated_at, terms_at, with_keep, with_terms, told_at, question_at}
+use Rattle.td_certificate.specs.ConditionReading.{kept_at}
 use Rattle.td_domain.proofs.Weaving.{weave-length}
 use Rattle.td_certificate.proofs.Codes.{IsCode, IsCode-then, IsCode-done}
 use Rattle.td_certificate.proofs.FieldCodes.{AtMost, number_text}
 use Rattle.td_certificate.proofs.TermCodes.{IsTerms, terms_text, terms_code, terms_lines}
+use Rattle.td_certificate.proofs.ConditionCodes.{kept_text, kept_code}
 use Rattle.td_certificate.proofs.VectorCodes.{behind_word, number_behind_code, HasLength, trit_letter, hold_letter, row_text, row_behind_code, IsCode-as, mapped_code}
 use Rattle.td_certificate.proofs.VersionCode.{because_code}
 use Rattle.td_certificate.proofs.MomentCodes.{AreWithin, AreMoments, CanChange, at_text, at_code}
@@ -496,52 +499,83 @@ third_code i some few =
 abbrev bare : Question → Question
 bare q = asked q.admit q.moments
 
+-- the terms without the conditions
+abbrev free_terms : Question → Terms
+free_terms q = with_keep [] (terms_of q)
+
 abbrev dated_text : Question → List ℕ
 dated_text q = admit_text q.admit ++ at_text q.moments
 
-abbrev keep_text : List ℕ
-keep_text = codes "keep none\n" ++ []
+-- the question with these terms and conditions
+abbrev whole : Terms → List NamedCondition → Question → Question
+whole terms keep p = with_terms (with_keep keep terms) p
+
+abbrev keep_in : Question → List NamedCondition
+keep_in q = (terms_of q).keep
+
+abbrev keep_text : Question → List ℕ
+keep_text q = codes "keep " ++ kept_text (keep_in q)
+
+abbrev IsBehindDated : Terms → Question → Question → Type 0
+IsBehindDated terms p q = AreConditions (keep_in q) × (q ≡ whole terms (keep_in q) p)
+
+behind_dated : (terms : Terms) (p : Question) → IsCode (IsBehindDated terms p) keep_text
+    (λ bytes. literal (codes "keep ") bytes >>= λ word. kept_at word.1 >>= λ keep. Ok (whole terms keep.0 p, keep.1))
+behind_dated terms p =
+    behind_word (codes "keep ") (IsBehindDated terms p) (λ q. kept_text (keep_in q)) (λ bytes. kept_at bytes >>= λ keep. Ok (whole terms keep.0 p, keep.1))
+    (mapped_code (λ (keep : List NamedCondition). whole terms keep p) keep_in AreConditions kept_text kept_at (λ keep. refl) kept_code)
 
 abbrev IsBehindTerms : ℕ → Terms → Question → Type 0
-IsBehindTerms i terms q = IsDated Fourth false i (bare q) × (q ≡ with_terms terms (bare q))
+IsBehindTerms i terms q = IsDated Fourth false i (bare q) × AreConditions (keep_in q) × (q ≡ whole terms (keep_in q) (bare q))
 
-behind_terms : (i : ℕ) → i ≤ 4096 → (terms : Terms) → IsCode (IsBehindTerms i terms) (λ q. dated_text q ++ keep_text)
-    (λ bytes. dated_at Fourth false i bytes >>= λ question. literal (codes "keep none\n") question.1 >>= λ keep. Ok (with_terms terms question.0, keep.1))
+behind_terms : (i : ℕ) → i ≤ 4096 → (terms : Terms) → IsCode (IsBehindTerms i terms) (λ q. dated_text q ++ keep_text q)
+    (λ bytes. dated_at Fourth false i bytes >>= λ question. literal (codes "keep ") question.1 >>= λ word. kept_at word.1 >>= λ keep. Ok (whole terms keep.0 question.0, keep.1))
 behind_terms i few terms =
-    IsCode-then bare (IsDated Fourth false i) dated_text (dated_at Fourth false i) (λ p q. q ≡ with_terms terms p) (λ p q. keep_text)
-    (λ p bytes. literal (codes "keep none\n") bytes >>= λ keep. Ok (with_terms terms p, keep.1)) (IsBehindTerms i terms) (λ q. dated_text q ++ keep_text)
+    IsCode-then bare (IsDated Fourth false i) dated_text (dated_at Fourth false i) (IsBehindDated terms) (λ p q. keep_text q)
+    (λ p bytes. literal (codes "keep ") bytes >>= λ word. kept_at word.1 >>= λ keep. Ok (whole terms keep.0 p, keep.1)) (IsBehindTerms i terms) (λ q. dated_text q ++ keep_text q)
     (dated_code Fourth false i (λ e. absurd cc) few)
-    (λ p u. behind_word (codes "keep none\n") (λ q. q ≡ with_terms terms p) (λ q. []) (λ bytes. Ok (with_terms terms p, bytes)) (IsCode-done (with_terms terms p)))
+    (λ p u. behind_dated terms p)
     (record {
-      down = λ q u. (u.0, u.1, refl);
-      up = λ p q u e.
-          let none : bare q ≡ p = ap bare e ∙ sym (as_asked p u.none) in (
-            (subst (IsDated Fourth false i) (sym none) u, e ∙ ap (with_terms terms) (sym none)),
-            ap (λ (r : Question). dated_text r ++ keep_text) none,
+      down = λ q u. (u.0, (u.1, u.2), refl);
+      up = λ p q u w.
+          let none : bare q ≡ p = ap bare w.1 ∙ sym (as_asked p u.none) in (
+            (subst (IsDated Fourth false i) (sym none) u, w.0, w.1 ∙ ap (whole terms (keep_in q)) (sym none)),
+            ap (λ (r : Question). dated_text r ++ keep_text q) none,
           );
     })
 
 abbrev told_text : Question → List ℕ
-told_text q = terms_text (terms_of q) ++ (dated_text q ++ keep_text)
+told_text q = terms_text (free_terms q) ++ (dated_text q ++ keep_text q)
 
 record IsTold (i : ℕ) (q : Question) : Type 0 where
-  terms : IsTerms (terms_of q)
+  terms : IsTerms (free_terms q)
   dated : IsDated Fourth false i (bare q)
+  keep : AreConditions (keep_in q)
   some : q ≡ with_terms (terms_of q) (bare q)
+
+-- the terms that a text was read with, but for the conditions
+terms_back : (terms : Terms) (q : Question) → IsTerms terms → q ≡ whole terms (keep_in q) (bare q) → free_terms q ≡ terms
+terms_back terms q are is =
+    ap (λ (r : Question). with_keep [] (terms_of r)) is ∙ sym (ap (λ (keep : List NamedCondition). with_keep keep terms) are.2)
 
 told_code : (i : ℕ) → i ≤ 4096 → IsCode (IsTold i) told_text (told_at i)
 unfolding told_at
 told_code i few =
-    IsCode-then terms_of IsTerms terms_text terms_at (IsBehindTerms i) (λ terms q. dated_text q ++ keep_text)
-    (λ terms bytes. dated_at Fourth false i bytes >>= λ question. literal (codes "keep none\n") question.1 >>= λ keep. Ok (with_terms terms question.0, keep.1))
+    IsCode-then free_terms IsTerms terms_text terms_at (IsBehindTerms i) (λ terms q. dated_text q ++ keep_text q)
+    (λ terms bytes. dated_at Fourth false i bytes >>= λ question. literal (codes "keep ") question.1 >>= λ word. kept_at word.1 >>= λ keep. Ok (whole terms keep.0 question.0, keep.1))
     (IsTold i) told_text terms_code
     (λ terms u. behind_terms i few terms)
     (record {
-      down = λ q u. (u.terms, (u.dated, u.some), refl);
+      down = λ q u. (u.terms, (u.dated, u.keep, u.some), refl);
       up = λ terms q u w.
-          let p : terms_of q ≡ terms = ap terms_of w.1 in (
-            record { terms = subst IsTerms (sym p) u; dated = w.0; some = w.1 ∙ ap (λ (t : Terms). with_terms t (bare q)) (sym p) },
-            ap (λ (t : Terms). terms_text t ++ (dated_text q ++ keep_text)) p,
+          let p : free_terms q ≡ terms = terms_back terms q u w.2 in (
+            record {
+              terms = subst IsTerms (sym p) u;
+              dated = w.0;
+              keep = w.1;
+              some = w.2 ∙ ap (λ (t : Terms). with_terms t (bare q)) (sym (ap terms_of w.2));
+            },
+            ap (λ (t : Terms). terms_text t ++ (dated_text q ++ keep_text q)) p,
           );
     })
 
@@ -560,6 +594,7 @@ pub fourth_text : (q : Question) → question_text Fourth q ≡ told_text q
 fourth_text q =
     fourth_parts q ∙ ap (λ (t : List ℕ). t ++ (question_text Third q ++ ended (field_line q KeepField))) (terms_lines (terms_of q))
     ∙ ap (λ (t : List ℕ). terms_text (terms_of q) ++ (t ++ ended (field_line q KeepField))) (third_text q)
+    ∙ ap (λ (t : List ℕ). terms_text (terms_of q) ++ (dated_text q ++ t)) (append_assoc (codes "keep ") (conditions (keep_in q)) (codes "\n"))
 
 to_fourth_question : (i : ℕ) (q : Question) → IsTold i q → IsQuestion Fourth i q
 to_fourth_question i q v =
@@ -571,7 +606,7 @@ to_fourth_question i q v =
       flips = omega (arith, v.dated.admit.flips, v.dated.admit.held);
       count = v.dated.moments.long;
       moments = v.dated.moments.within;
-      terms = subst AreTerms (sym some) v.terms;
+      terms = subst AreTerms (sym some) (v.terms.0, v.terms.1, v.keep);
     }
 
 -- a question of the fourth version has terms
@@ -591,12 +626,13 @@ from_fourth_question i q v = by_terms q.terms refl v.version v.terms
     by_terms (Some terms) some is are =
         let p : terms_of q ≡ terms = ap terms_or_plain some in
         record {
-          terms = subst IsTerms (sym p) are;
+          terms = subst (λ (t : Terms). IsTerms (with_keep [] t)) (sym p) (are.0, are.1, refl);
           dated = record {
             admit = record { pins = v.pins; held = v.inputs; flips = omega (arith, v.flips, v.inputs) };
             moments = record { long = v.count; within = v.moments; later = refl };
             none = refl;
           };
+          keep = subst (λ (t : Terms). AreConditions t.keep) (sym p) are.2;
           some =
               ap (λ (t : Option Terms). record { admit = q.admit; moments = q.moments; terms = t }) some
               ∙ ap (λ (t : Terms). with_terms t (bare q)) (sym p);

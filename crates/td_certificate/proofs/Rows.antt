@@ -29,7 +29,10 @@ use Rattle.td_certificate.specs.declared.tree.BoundedBy.TheVariants as by
 use Rattle.td_certificate.specs.declared.tree.Node.TheVariants as node
 use Rattle.td_certificate.specs.declared.certificate.Certificate.{Certificate}
 use Rattle.td_certificate.specs.declared.question.Version.TheVariants.{First, Second, Third, Fourth}
-use Rattle.td_certificate.specs.Questions.{Question, version_of, all_at_once}
+use Rattle.td_gates.proofs.Places.{none-some}
+use Rattle.td_refutation.specs.Asking.{all_admitted}
+use Rattle.td_refutation.proofs.Asking.{nothing_kept}
+use Rattle.td_certificate.specs.Questions.{Question, version_of, all_at_once, asking_of}
 use Rattle.td_certificate.specs.Spelling.{version_in}
 use Rattle.td_certificate.specs.Accepts.{IsBounded, IsGood, Accepts}
 use Rattle.td_certificate.proofs.VectorCodes.{some_of, none_not}
@@ -216,7 +219,7 @@ in_first = refl
 abbrev edged : Certificate
 edged = record {
   gates = 1;
-  question = record { admit = question.admit; moments = question.moments; terms = Some (record { default = record { rise = 1; fall = 1 }; outputs = None }) };
+  question = record { admit = question.admit; moments = question.moments; terms = Some (record { default = record { rise = 1; fall = 1 }; outputs = None; keep = [] }) };
   time = 3;
   high = 3;
   pair = record { first = false ∷ []; second = true ∷ [] };
@@ -229,15 +232,18 @@ in_fourth = refl
 -- with 3 it is accepted
 accepted : Accepts inverter (certificate 3)
 accepted = record {
-  size = record { inputs = refl; gates = refl };
-  admitted = record { pinned = (tt, tt, tt); held = (λ e. absurd cc, tt); few = omega arith };
+  size = record { inputs = refl; gates = refl; fit = refl };
+  admitted = record {
+    admitted = record { pinned = (tt, tt, tt); held = (λ e. absurd cc, tt); few = omega arith };
+    kept = nothing_kept inverter (record { first = false ∷ []; second = true ∷ [] });
+  };
   reached = has_delay;
   tree = refl;
   good = (record { splits = tt; one_pair = tt; of_cube = is_bounded; within = omega arith }, tt);
 }
 
 -- a leaf with 2 is below the bound, and no good line
-two_is_low : ¬ IsGood given question.admit 3 (record { cube = Free ∷ Free ∷ []; node = node.Bound by.Arrival 2 })
+two_is_low : ¬ IsGood given (asking_of question) 3 (record { cube = Free ∷ Free ∷ []; node = node.Bound by.Arrival 2 })
 two_is_low good =
     let least = good.of_cube in
     let are = least.is.are_signals in
@@ -249,17 +255,20 @@ two_is_low good =
     omega (arith, three, least.within)
 
 -- nor is a leaf with 4, above the time
-four_is_high : ¬ IsGood given question.admit 3 (record { cube = Free ∷ Free ∷ []; node = node.Bound by.Arrival 4 })
+four_is_high : ¬ IsGood given (asking_of question) 3 (record { cube = Free ∷ Free ∷ []; node = node.Bound by.Arrival 4 })
 four_is_high good = omega (arith, good.within)
 
 -- nor a leaf of one pair where something is free
-not_one_pair : ¬ IsGood given question.admit 3 (record { cube = Free ∷ Free ∷ []; node = node.Point 3 })
+not_one_pair : ¬ IsGood given (asking_of question) 3 (record { cube = Free ∷ Free ∷ []; node = node.Point 3 })
 not_one_pair good = (recursion_from_All (λ (trit : Trit). trit ≢ Free) (Free ∷ Free ∷ []) good.one_pair).0 refl
 
 -- nor a leaf without an admitted pair where one lies
-not_empty : ¬ IsGood given question.admit 3 (record { cube = Free ∷ Free ∷ []; node = node.Empty })
+not_empty : ¬ IsGood given (asking_of question) 3 (record { cube = Free ∷ Free ∷ []; node = node.Empty })
 not_empty good =
-    good.of_cube (record { first = false ∷ []; second = false ∷ [] }, record { pinned = (tt, tt, tt); held = (λ e. absurd cc, tt); few = omega arith }, (tt, tt, tt))
+    good.of_cube (
+      (record { first = false ∷ []; second = false ∷ [] }, record { pinned = (tt, tt, tt); held = (λ e. absurd cc, tt); few = omega arith }, (tt, tt, tt)),
+      λ broken. none-some broken.condition broken.stands,
+    )
 
 -- without flips no pair lies in the cube of 0 and 1
 abbrev still : Admitted
@@ -275,8 +284,8 @@ no_flip pair admitted is_in = let few = admitted.few in no_pair pair.first pair.
     no_pair (false ∷ before) (false ∷ after) few h = absurd h.1
     no_pair (false ∷ before) (true ∷ after) few h = absurd (omega (arith, few))
 
-is_empty : IsGood given still 3 (record { cube = Zero ∷ One ∷ []; node = node.Empty })
-is_empty = record { splits = tt; one_pair = tt; of_cube = λ has. no_flip has.0 has.1 has.2; within = tt }
+is_empty : IsGood given (all_admitted still) 3 (record { cube = Zero ∷ One ∷ []; node = node.Empty })
+is_empty = record { splits = tt; one_pair = tt; of_cube = λ may. no_flip may.0.0 may.0.1 may.0.2; within = tt }
 
 -- such pairs are of the second version, and with a moment that isn't 0 of the third
 is_second : version_of (record { admit = still; moments = 0 ∷ []; terms = None }) ≡ Second

@@ -299,7 +299,7 @@ abbrev behind_text : Bool → List ℕ → List ℕ
 behind_text true ns = []
 behind_text false ns = numbers_text ns
 
-close_letter : IsLetter Always (λ b. written_as closing_byte (true ∷ false ∷ []) b) closing_byte
+pub close_letter : IsLetter Always (λ b. written_as closing_byte (true ∷ false ∷ []) b) closing_byte
 close_letter = record {
   some = true;
   some_valid = tt;

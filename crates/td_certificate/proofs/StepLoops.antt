@@ -14,42 +14,29 @@ use Rattle.td_certificate.specs.Fields.{Reading, ◌>>=◌, Fails}
 use Rattle.td_certificate.specs.Steps.{Refuted, step_text, steps_text, IsStep}
 use Rattle.td_certificate.specs.StepReading.{open_number_at, numbers_at, RefutedLine, StepLine, BoundLine, refuted_line_at, is_bound_line, bound_alone, step_before, refuted_at}
 use Rattle.td_certificate.specs.Lines.{steps_read, steps_in, refuted_by, AreLines, IsNext}
-use Rattle.td_certificate.proofs.Loops.{with_front, with_front-push, done, done_is}
-use Rattle.td_certificate.proofs.Until.{shorter, behind_value, until_first, ended_alone, ended_before}
+use Rattle.td_certificate.proofs.Loops.{with_front, done, done_is}
+use Rattle.td_certificate.proofs.Until.{shorter, behind_value, until_first}
+use Rattle.td_certificate.proofs.ListLoops.{listed_more, listed_done, listed_stop}
 use Rattle.td_certificate.proofs.StepCodes.{open_code, open_long, line_text, line_code, line_long, refuted_tail, refuted_code}
 
 -- ---- the numbers of a line
 
-numbers_first : (bytes : List ℕ) → numbers_at bytes ≡ (open_number_at bytes >>= behind_value (λ x. x.1) (λ x. x.0 ∷ []) (λ x others. x.0 ∷ others) numbers_at)
-unfolding numbers_at
-numbers_first bytes = until_first (λ x. x.1) (λ x. x.0 ∷ []) (λ x others. x.0 ∷ others) open_code (λ x v. open_long x) bytes
-
 pub number_shorter : (bytes : List ℕ) (x : (ℕ × Bool) × List ℕ) → open_number_at bytes ≡ Ok x → length x.1 < length bytes
 number_shorter bytes x e = shorter open_code (λ x v. open_long x) bytes x e
 
-abbrev numbers_behind : (ℕ × Bool) × List ℕ → Reading (List ℕ)
-numbers_behind x = behind_value (λ x. x.1) (λ x. x.0 ∷ []) (λ x others. x.0 ∷ others) numbers_at x
-
-number_read : (bytes : List ℕ) (x : (ℕ × Bool) × List ℕ) → open_number_at bytes ≡ Ok x → numbers_at bytes ≡ numbers_behind x
-number_read bytes x e = numbers_first bytes ∙ ap (λ (r : Reading (ℕ × Bool)). r >>= numbers_behind) e
-
 pub numbers_more : (front : List ℕ) (n : ℕ) (last : Bool) (rest after : List ℕ) (total : Reading (List ℕ)) → open_number_at rest ≡ Ok ((n, last), after) → last ≡ false
     → with_front front (numbers_at rest) ≡ total → with_front (front ++ n ∷ []) (numbers_at after) ≡ total
-numbers_more front n last rest after total e h so_far =
-    sym (ap (with_front front) (number_read rest ((n, last), after) e
-    ∙ ended_before (λ x. x.0 ∷ []) (λ x others. x.0 ∷ others) last (n, last) after (numbers_at after) h)
-    ∙ with_front-push front n (numbers_at after)) ∙ so_far
+unfolding numbers_at
+numbers_more front n last rest after total e h so_far = listed_more open_code (λ x v. open_long x) front n last rest after total e h so_far
 
 pub numbers_done : (front : List ℕ) (n : ℕ) (last : Bool) (rest after : List ℕ) (total : Reading (List ℕ)) → open_number_at rest ≡ Ok ((n, last), after) → last ≡ true
     → with_front front (numbers_at rest) ≡ total → total ≡ Ok (front ++ n ∷ [], after)
-numbers_done front n last rest after total e h so_far =
-    sym so_far ∙ ap (with_front front) (number_read rest ((n, last), after) e
-    ∙ ended_alone (λ x. x.0 ∷ []) (λ x others. x.0 ∷ others) last (n, last) after (numbers_at after) h)
+unfolding numbers_at
+numbers_done front n last rest after total e h so_far = listed_done open_code (λ x v. open_long x) front n last rest after total e h so_far
 
 pub numbers_stop : (stop : code_stop.Stop) (front rest : List ℕ) (total : Reading (List ℕ)) → Fails stop (open_number_at rest) → with_front front (numbers_at rest) ≡ total → Fails stop total
-numbers_stop code.OutOfMemory front rest total e so_far = tt
-numbers_stop code.Ends front rest total e so_far = sym so_far ∙ ap (with_front front) (numbers_first rest ∙ ap (λ (r : Reading (ℕ × Bool)). r >>= numbers_behind) e)
-numbers_stop (code.Wrong reason at) front rest total e so_far = sym so_far ∙ ap (with_front front) (numbers_first rest ∙ ap (λ (r : Reading (ℕ × Bool)). r >>= numbers_behind) e)
+unfolding numbers_at
+numbers_stop stop front rest total e so_far = listed_stop open_code (λ x v. open_long x) stop front rest total e so_far
 
 -- ---- steps that are kept as their lines
 

@@ -4,6 +4,7 @@ use Rattle.std.specs.Prelude.{codes, decimal}
 use Rattle.std.specs.List.{AllByRecursion}
 use Rattle.std.proofs.lemmas.List.{append-nil, length-append}
 use Rattle.td_gates.specs.Delays.{Delays, IsInRange}
+use Rattle.td_refutation.specs.declared.conditions.NamedCondition.{NamedCondition}
 use Rattle.td_certificate.specs.declared.fields.Reason.TheVariants.{Syntax}
 use Rattle.td_certificate.specs.Questions.{Terms}
 use Rattle.td_certificate.specs.Spelling.{greatest, latest, ended, AreOutputs, default_line, output_line}
@@ -152,14 +153,18 @@ outputs_code =
 
 -- ---- both lines
 
+-- the terms of these lines have no conditions yet
 abbrev pub IsTerms : Terms → Type 0
-IsTerms terms = IsInRange terms.default × AreOutputs terms.outputs
+IsTerms terms = IsInRange terms.default × AreOutputs terms.outputs × (terms.keep ≡ [])
 
 abbrev pub terms_text : Terms → List ℕ
 terms_text terms = default_text terms.default ++ (codes "output " ++ outputs_text terms.outputs)
 
 abbrev AreOutputsOf : Delays → Terms → Type 0
 AreOutputsOf default terms = AreOutputs terms.outputs × (terms ≡ terms_by default terms.outputs)
+
+without_keep : (terms : Terms) → terms.keep ≡ [] → terms ≡ terms_by terms.default terms.outputs
+without_keep terms none = ap (λ (keep : List NamedCondition). record { default = terms.default; outputs = terms.outputs; keep = keep }) none
 
 outputs_behind : (default : Delays) → IsCode (AreOutputsOf default) (λ terms. codes "output " ++ outputs_text terms.outputs)
     (λ bytes. literal (codes "output ") bytes >>= λ word. outputs_at word.1 >>= λ outputs. Ok (terms_by default outputs.0, outputs.1))
@@ -174,10 +179,10 @@ terms_code =
     (λ default bytes. literal (codes "output ") bytes >>= λ word. outputs_at word.1 >>= λ outputs. Ok (terms_by default outputs.0, outputs.1)) IsTerms terms_text default_code
     (λ default u. outputs_behind default)
     (record {
-      down = λ terms u. (u.0, (u.1, refl), refl);
+      down = λ terms u. (u.0, (u.1, without_keep terms u.2), refl);
       up = λ default terms u w.
           let p : terms.default ≡ default = ap (λ (t : Terms). t.default) w.1 in
-          ((subst IsInRange (sym p) u, w.0), ap (λ (d : Delays). default_text d ++ (codes "output " ++ outputs_text terms.outputs)) p);
+          ((subst IsInRange (sym p) u, w.0, ap (λ (t : Terms). t.keep) w.1), ap (λ (d : Delays). default_text d ++ (codes "output " ++ outputs_text terms.outputs)) p);
     })
 
 regroup : (d r s f n : List ℕ) → (((d ++ r) ++ s) ++ f) ++ n ≡ d ++ ((r ++ s) ++ (f ++ n))

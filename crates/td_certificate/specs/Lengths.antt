@@ -18,19 +18,20 @@ IsShort (node.Point time) = time < 10 ^ 15
 IsShort node.Empty = Unit {0}
 IsShort (node.Refuted refuted) = ⊥
 
--- the question names at most 10,000 outputs
+-- the question names at most 10,000 outputs, and at most 5,000 conditions
 abbrev pub AreFew : Option (List ℕ) → Type 0
 AreFew None = Unit {0}
 AreFew (Some numbers) = length numbers ≤ 10000
 
 abbrev pub HaveFew : Option Terms → Type 0
 HaveFew None = Unit {0}
-HaveFew (Some terms) = AreFew terms.outputs
+HaveFew (Some terms) = AreFew terms.outputs × (length terms.keep ≤ 5000)
 
--- A text with these terms can tell the tree: without any, no leaf is bounded by edges or refuted.
+-- A text with these terms, which have no condition, can tell the tree: without any, no leaf is bounded
+-- by edges or refuted.
 abbrev pub CanTell : List Node → Option Terms → Type 0
 CanTell tree None = (has_edges tree ≡ false) × (has_refuted tree ≡ false)
-CanTell tree (Some terms) = AreTerms (Some terms) × HaveFew (Some terms)
+CanTell tree (Some terms) = AreTerms (Some terms) × HaveFew (Some terms) × (terms.keep ≡ [])
 
 -- A tree of at most 10,000,000 lines with numbers below 10 ^ 15, as a search gives, has a text
 -- within the limit.

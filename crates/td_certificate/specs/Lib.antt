@@ -2,6 +2,7 @@ pub mod Cubes
 pub mod Steps
 pub mod Fields
 pub mod StepReading
+pub mod ConditionReading
 pub mod Trees
 pub mod Text
 pub mod Questions

@@ -1,18 +1,21 @@
 -- What a certificate is about, and by which version of its text that can be said.
-use Rattle.std.specs.Prelude.{ℕ, Bool, true, false, List, length, not, ◌==◌, ◌&&◌, if◌then◌else◌, replicate, Option, Some, None}
+use Rattle.std.specs.Prelude.{ℕ, Bool, true, false, List, [], length, not, ◌==◌, ◌&&◌, if◌then◌else◌, replicate, Option, Some, None}
 use Rattle.std.specs.List.{list_all}
 use Rattle.td_gates.specs.Delays.{Delays}
 use Rattle.td_domain.specs.declared.cubes.Trit.{Trit}
 use Rattle.td_domain.specs.declared.cubes.Trit.TheVariants.{Free}
 use Rattle.td_domain.specs.Admits.{Admitted, all_pairs}
+use Rattle.td_refutation.specs.declared.conditions.NamedCondition.{NamedCondition}
+use Rattle.td_refutation.specs.Asking.{Asking}
 use Rattle.td_certificate.specs.declared.question.Version.{Version}
 use Rattle.td_certificate.specs.declared.question.Version.TheVariants.{First, Second, Third, Fourth}
 
--- How the netlist is read: the delays of gates that state none, and the numbers of the outputs that
--- are asked about, where not all are.
+-- What a text of the fourth version tells besides: the delays of gates that state none, the numbers
+-- of the outputs that are asked about, where not all are, and the conditions that pairs keep.
 pub record Terms : Type 0 where
   pub default : Delays
   pub outputs : Option (List ℕ)
+  pub keep : List NamedCondition
 
 -- Which pairs are admitted, and for each input the moment at which it takes its second level. The
 -- terms stand in a text of the fourth version alone.
@@ -20,6 +23,15 @@ pub record Question : Type 0 where
   pub admit : Admitted
   pub moments : List ℕ
   pub terms : Option Terms
+
+-- the conditions that pairs keep
+abbrev pub keep_by : Option Terms → List NamedCondition
+keep_by None = []
+keep_by (Some terms) = terms.keep
+
+-- the pairs that are asked about
+abbrev pub asking_of : Question → Asking
+asking_of question = record { admit = question.admit; keep = keep_by question.terms }
 
 -- the number of inputs
 abbrev pub inputs_of : Question → ℕ

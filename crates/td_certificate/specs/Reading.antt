@@ -23,7 +23,9 @@ use Rattle.td_certificate.specs.Questions.{Terms, Question, is_free, holds_none,
 use Rattle.td_domain.specs.Cubes.{weave}
 use Rattle.td_certificate.specs.Text.{bit, trit, hold}
 use Rattle.td_certificate.specs.Spelling.{greatest, latest}
+use Rattle.td_refutation.specs.declared.conditions.NamedCondition.{NamedCondition}
 use Rattle.td_certificate.specs.StepReading.{numbers_at, refuted_at}
+use Rattle.td_certificate.specs.ConditionReading.{kept_at}
 pub use Rattle.td_certificate.specs.Fields.{Stop, Ends, Wrong, Reading, ◌>>=◌, Fails, Gives, byte_at, begins_with_zero, written_as, taken, char_at}
 unfoldable pub use Rattle.td_certificate.specs.Fields.{literal, digits_at, number_at, number_from, number_behind}
 
@@ -210,7 +212,10 @@ outputs_at (b ∷ rest) = if b == 97 then (literal (codes "all\n") (b ∷ rest) 
     else (numbers_at (b ∷ rest) >>= λ numbers. Ok (Some numbers.0, numbers.1))
 
 abbrev pub terms_by : Delays → Option (List ℕ) → Terms
-terms_by default outputs = record { default = default; outputs = outputs }
+terms_by default outputs = record { default = default; outputs = outputs; keep = [] }
+
+abbrev pub with_keep : List NamedCondition → Terms → Terms
+with_keep keep terms = record { default = terms.default; outputs = terms.outputs; keep = keep }
 
 -- the lines `default` and `output`
 unfoldable pub terms_at : List ℕ → Reading Terms
@@ -228,8 +233,9 @@ unfoldable pub told_at : ℕ → List ℕ → Reading Question
 told_at inputs bytes = do
   terms ← terms_at bytes
   question ← dated_at Fourth false inputs terms.1
-  keep ← literal (codes "keep none\n") question.1
-  Ok (with_terms terms.0 question.0, keep.1)
+  word ← literal (codes "keep ") question.1
+  keep ← kept_at word.1
+  Ok (with_terms (with_keep keep.0 terms.0) question.0, keep.1)
 
 -- the lines of a question
 unfoldable pub question_at : Version → ℕ → List ℕ → Reading Question

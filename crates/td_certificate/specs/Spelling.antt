@@ -1,6 +1,9 @@
 -- Certificates and their one spelling: lines, each ended by a newline.
 use Rattle.std.specs.Prelude.{◌≡◌, ◌≢◌, ℕ, ◌*◌, ◌≤◌, ◌<◌, false, List, [], ◌∷◌, ◌++◌, length, map, codes, decimal, Option, Some, None}
 use Rattle.std.specs.List.{flat_map, AllByRecursion}
+use Rattle.td_gates.specs.declared.primitives.Level.TheVariants.{X}
+use Rattle.td_spans.specs.declared.condition.Form.TheVariants.{Levels}
+use Rattle.td_refutation.specs.declared.conditions.NamedCondition.{NamedCondition}
 use Rattle.td_certificate.specs.declared.tree.Node.{Node}
 use Rattle.td_certificate.specs.declared.tree.Node.TheVariants as node
 use Rattle.td_certificate.specs.declared.question.Version.{Version}
@@ -10,7 +13,7 @@ use Rattle.td_certificate.specs.Questions.{Terms, Question, inputs_of, version_o
 use Rattle.td_certificate.specs.Trees.{IsTree, is_of_edges}
 use Rattle.td_certificate.specs.Steps.{IsRefutedText}
 pub use Rattle.td_certificate.specs.Steps.{greatest}
-use Rattle.td_certificate.specs.Text.{row, bits, node_line, trit, first_trits, second_trits, hold, numbers, outputs}
+use Rattle.td_certificate.specs.Text.{row, bits, node_line, trit, first_trits, second_trits, hold, numbers, outputs, conditions}
 use Rattle.td_gates.specs.Delays.{IsInRange}
 
 -- ---- the lines
@@ -43,7 +46,7 @@ fields_of Fourth = DefaultField ∷ OutputField ∷ FirstField ∷ SecondField �
 
 -- the terms that a question without any is read by
 abbrev pub plain_terms : Terms
-plain_terms = record { default = record { rise = 1; fall = 1 }; outputs = None }
+plain_terms = record { default = record { rise = 1; fall = 1 }; outputs = None; keep = [] }
 
 abbrev pub terms_or_plain : Option Terms → Terms
 terms_or_plain None = plain_terms
@@ -58,6 +61,9 @@ default_line terms = codes "default " ++ decimal terms.default.rise ++ codes " "
 abbrev pub output_line : Terms → List ℕ
 output_line terms = codes "output " ++ outputs terms.outputs
 
+abbrev pub keep_line : Terms → List ℕ
+keep_line terms = codes "keep " ++ conditions terms.keep
+
 abbrev pub field_line : Question → Field → List ℕ
 field_line question DefaultField = default_line (terms_of question)
 field_line question OutputField = output_line (terms_of question)
@@ -66,7 +72,7 @@ field_line question SecondField = codes "second " ++ row trit (second_trits ques
 field_line question HoldField = codes "hold " ++ row hold question.admit.held
 field_line question FlipsField = codes "flips " ++ decimal question.admit.flips
 field_line question AtField = codes "at " ++ numbers question.moments
-field_line question KeepField = codes "keep none"
+field_line question KeepField = keep_line (terms_of question)
 
 abbrev pub question_lines : Version → Question → List (List ℕ)
 question_lines version question = map (field_line question) (fields_of version)
@@ -141,9 +147,16 @@ abbrev pub AreOutputs : Option (List ℕ) → Type 0
 AreOutputs None = Unit {0}
 AreOutputs (Some numbers) = (0 < length numbers) × AllByRecursion (λ number. number ≤ greatest) numbers
 
+-- a condition that asks for something, on a net whose number is up to the greatest
+abbrev pub IsCondition : NamedCondition → Type 0
+IsCondition asked = (asked.net ≤ greatest) × (asked.form ≢ Levels X X)
+
+abbrev pub AreConditions : List NamedCondition → Type 0
+AreConditions keep = AllByRecursion IsCondition keep
+
 abbrev pub AreTerms : Option Terms → Type 0
 AreTerms None = Unit {0}
-AreTerms (Some terms) = IsInRange terms.default × AreOutputs terms.outputs
+AreTerms (Some terms) = IsInRange terms.default × AreOutputs terms.outputs × AreConditions terms.keep
 
 -- its numbers are within their limits, there are two pins, a moment and a bit of each vector for
 -- each input, and its nodes are one tree's

@@ -4,9 +4,10 @@ ghost use Rattle.std.specs.Prelude.{◌≡◌, ◌≤◌, ◌<◌, ◌^◌, ◌=
 ghost use Rattle.td_certificate.specs.declared.question.Version.TheVariants as of_version;
 ghost use Rattle.td_domain.specs.Cubes.{weave};
 ghost use Rattle.td_certificate.specs.Tails.{limited_at};
-ghost use Rattle.td_certificate.specs.Reading.{Gives, most_flips, flips_at, admit_at, moment_at, moments_at, at_line, dated_at, steps_at, delays, default_at, outputs_at, terms_at, told_at, question_at};
+ghost use Rattle.td_certificate.specs.Reading.{Gives, most_flips, flips_at, admit_at, moment_at, moments_at, at_line, dated_at, steps_at, delays, default_at, outputs_at, terms_by, terms_at, with_keep, told_at, question_at};
 
 use crate::characters::{Holds, Trits, row};
+use crate::conditions::kept;
 use crate::fields::{Reason, Stop, literal, number_behind, number_from};
 use crate::question::{Question, Terms, Version, are_free, holds_none};
 use crate::steps::numbers;
@@ -198,6 +199,7 @@ fn terms(alloc: Global, text: &[u8]) -> Result<(Terms, &[u8]), Stop<'_>>
         rise,
         fall,
         outputs,
+        keep: Vec::new(alloc),
     };
     Ok((terms, rest))
 }
@@ -210,7 +212,14 @@ fn told(alloc: Global, inputs: u32, text: &[u8]) -> Result<(Question, &[u8]), St
 {
     let (terms, rest) = terms(alloc, text)?;
     let (question, rest) = dated(alloc, Version::Fourth, false, inputs, rest)?;
-    let rest = literal(b"keep none\n", rest)?;
+    let rest = literal(b"keep ", rest)?;
+    let (keep, rest) = kept(alloc, rest)?;
+    let terms = Terms {
+        rise: terms.rise,
+        fall: terms.fall,
+        outputs: terms.outputs,
+        keep,
+    };
     Ok((question.with_terms(terms), rest))
 }
 

@@ -72,7 +72,7 @@ impl Alphabet for Holds {
 }
 
 /// Takes a character.
-fn character<A: Alphabet>(text: &[u8]) -> Result<(A::Value, &[u8]), Stop<'_>>
+pub fn character<A: Alphabet>(text: &[u8]) -> Result<(A::Value, &[u8]), Stop<'_>>
     ensures { Gives (λ x. (x.0, x.1.now)) result (char_at A.value_of text.now) }
 {
     match text {

@@ -4,6 +4,7 @@
 mod asking;
 mod certificate;
 mod characters;
+mod conditions;
 mod fault;
 mod fields;
 pub mod laws;

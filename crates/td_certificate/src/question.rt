@@ -2,11 +2,12 @@
 
 ghost use Rattle.std.specs.Prelude.{◌≡◌, None as Nothing, option_map};
 ghost use Rattle.std.specs.List.{list_all};
-ghost use Rattle.td_certificate.specs.Questions.{inputs_of, is_free, holds_none, admits_all, is_at_once, plain_version, version_of, version_number};
+ghost use Rattle.td_certificate.specs.Questions.{keep_by, inputs_of, is_free, holds_none, admits_all, is_at_once, plain_version, version_of, version_number};
 ghost use Rattle.td_certificate.specs.Reading.{with_terms};
 
 use std::marker::Model;
 use td_domain::{Admit, Cube, Trit};
+use td_refutation::NamedCondition;
 
 /// The versions of a certificate's text. The first is about all pairs of vectors, with all inputs
 /// changing at moment 0; in the second pairs are restricted; in the third an input changes later.
@@ -33,9 +34,9 @@ impl Version {
     }
 }
 
-/// How a netlist is read that is asked about: the delays of gates that state none, and the numbers of
-/// the outputs that are asked about, where not all are. Outputs are numbered from 0 in the order of
-/// the port list.
+/// What a text of the fourth version tells besides: the delays of gates that state none, the numbers
+/// of the outputs that are asked about, where not all are, and the conditions that pairs keep.
+/// Outputs are numbered from 0 in the order of the port list.
 #[derive(Debug, Drop)]
 pub struct Terms {
     /// The rise delay, in steps, from 1 on.
@@ -43,16 +44,17 @@ pub struct Terms {
     /// The fall delay, in steps, from 1 on.
     pub fall: u32,
     pub outputs: Option<Vec<u64>>,
+    pub keep: Vec<NamedCondition>,
 }
 
 impl Model for Terms {
     ghost use Rattle.std.specs.Prelude.{option_map};
     ghost use Rattle.td_certificate.specs.Questions as questions;
-    ghost use Rattle.td_certificate.specs.Reading.{delays, terms_by};
+    ghost use Rattle.td_certificate.specs.Reading.{delays, terms_by, with_keep};
 
     ghost Value = { questions.Terms };
 
-    ghost view = { λ terms. terms_by (delays terms.rise terms.fall) (option_map (λ numbers. numbers.items) terms.outputs) };
+    ghost view = { λ terms. with_keep terms.keep.items (terms_by (delays terms.rise terms.fall) (option_map (λ numbers. numbers.items) terms.outputs)) };
 }
 
 /// What is asked of a circuit: which pairs of vectors are admitted, for each input the moment at
@@ -100,6 +102,16 @@ impl Question {
         ensures { option_map (λ terms. terms.now) result ≡ self.now.terms }
     {
         self.terms.as_ref()
+    }
+
+    /// The conditions that pairs keep.
+    pub fn keep(&self) -> &[NamedCondition]
+        ensures { result.now ≡ keep_by self.now.terms }
+    {
+        match &self.terms {
+            Some(terms) => &terms.keep,
+            None => &[],
+        }
     }
 
     /// Which pairs are admitted.

@@ -6,7 +6,7 @@ use Rattle.std.proofs.lemmas.Bool.{cases_lt}
 use Rattle.std.proofs.lemmas.List.{append-nil, length-set}
 use Rattle.td_nets.specs.Netlist.{Netlist}
 use Rattle.td_circuit.specs.Settings.{Setting}
-use Rattle.td_domain.specs.Admits.{Admitted}
+use Rattle.td_refutation.specs.Asking.{Asking}
 use Rattle.td_source.proofs.Naming.{reads_one, one_output}
 use Rattle.td_certificate.specs.declared.certificate.Certificate.{Certificate}
 use Rattle.td_domain.specs.declared.cubes.Trit.{Trit}
@@ -15,14 +15,14 @@ use Rattle.td_refutation.specs.declared.flaw.Flaw as step_flaw
 use Rattle.td_refutation.proofs.OneVerdict.{leaf_has_one_verdict}
 use Rattle.td_certificate.specs.declared.tree.Node.{Node}
 use Rattle.td_certificate.specs.declared.tree.Node.TheVariants as node
-use Rattle.td_certificate.specs.Questions.{Terms}
+use Rattle.td_certificate.specs.Questions.{Terms, asking_of}
 use Rattle.td_certificate.specs.Cubes.{cubes_past}
 use Rattle.td_certificate.specs.Spelling.{head_lines}
 use Rattle.td_certificate.specs.Walks.{position_of, Line, lines_from}
 use Rattle.td_certificate.specs.Accepts.{lines_in, SplitsFree, IsOfOnePair, IsOfCube, IsGood, IsOfSize, setting_of, HasItsTime, Accepts}
 use Rattle.td_certificate.proofs.Acceptance.{cube_fits, vector_fits}
 use Rattle.td_certificate.proofs.Texts.{spells_once}
-use Rattle.td_certificate.proofs.VectorCodes.{cases, none_not, some_is}
+use Rattle.td_certificate.proofs.VectorCodes.{none_not, some_is}
 use Rattle.td_checker.specs.declared.verdict.Verdict.{Verdict}
 use Rattle.td_checker.specs.declared.verdict.Verdict.TheVariants as verdict
 use Rattle.td_checker.specs.Verdicts.{Flaw, Misplaced, NotOnePair, WrongNumber, NotEmpty, AboveTime, BadStep, SaysEmpty, IsWrong, HasBadStep, HasFlaw, line_total, reported_at, IsGoodIn, HasAdmittedPair, IsFirstBad, AreTold, AreOther, IsVerdictOn, IsVerdict, OneVerdict}
@@ -35,112 +35,112 @@ IsOfInputs given cube = length cube ≡ 2 * length given.netlist.inputs
 -- ---- lines
 
 -- a leaf's number is wrong only where it isn't so of its cube
-not_so : {X : Type 0} (given : Setting) (admit : Admitted) (cube : List Trit) (n : Node) → IsOfInputs given cube → IsWrong given admit cube n → IsOfCube given admit cube n → X
-not_so given admit cube (node.Split position) fits wrong is = absurd wrong
-not_so given admit cube (node.Bound domain bound) fits wrong is = absurd (wrong is)
-not_so given admit cube (node.Point time) fits wrong is = absurd (wrong is)
-not_so given admit cube node.Empty fits wrong is = absurd wrong
-not_so given admit cube (node.Refuted refuted) fits wrong is = absurd (leaf_has_one_verdict.refuted_or_above given admit cube refuted.steps refuted.bound fits is wrong)
+not_so : {X : Type 0} (given : Setting) (asking : Asking) (cube : List Trit) (n : Node) → IsOfInputs given cube → IsWrong given asking cube n → IsOfCube given asking cube n → X
+not_so given asking cube (node.Split position) fits wrong is = absurd wrong
+not_so given asking cube (node.Bound domain bound) fits wrong is = absurd (wrong is)
+not_so given asking cube (node.Point time) fits wrong is = absurd (wrong is)
+not_so given asking cube node.Empty fits wrong is = absurd wrong
+not_so given asking cube (node.Refuted refuted) fits wrong is = absurd (leaf_has_one_verdict.refuted_or_above given asking cube refuted.steps refuted.bound fits is wrong)
 
-not_empty : {X : Type 0} (given : Setting) (admit : Admitted) (cube : List Trit) (n : Node) → IsWrong given admit cube n → SaysEmpty n → X
-not_empty given admit cube (node.Split position) wrong says = absurd says
-not_empty given admit cube (node.Bound domain bound) wrong says = absurd says
-not_empty given admit cube (node.Point time) wrong says = absurd says
-not_empty given admit cube node.Empty wrong says = absurd wrong
-not_empty given admit cube (node.Refuted refuted) wrong says = absurd says
+not_empty : {X : Type 0} (given : Setting) (asking : Asking) (cube : List Trit) (n : Node) → IsWrong given asking cube n → SaysEmpty n → X
+not_empty given asking cube (node.Split position) wrong says = absurd says
+not_empty given asking cube (node.Bound domain bound) wrong says = absurd says
+not_empty given asking cube (node.Point time) wrong says = absurd says
+not_empty given asking cube node.Empty wrong says = absurd wrong
+not_empty given asking cube (node.Refuted refuted) wrong says = absurd says
 
 -- what holds of a leaf with a bad step, of which no other flaw is looked for
-record HasOnlySteps (given : Setting) (admit : Admitted) (cube : List Trit) (n : Node) : Type 0 where
+record HasOnlySteps (given : Setting) (asking : Asking) (cube : List Trit) (n : Node) : Type 0 where
   splits : SplitsFree cube n
   one_pair : IsOfOnePair cube n
-  not_wrong : ¬ IsWrong given admit cube n
-  not_of_cube : ¬ IsOfCube given admit cube n
+  not_wrong : ¬ IsWrong given asking cube n
+  not_of_cube : ¬ IsOfCube given asking cube n
   says_more : ¬ SaysEmpty n
 
-only_steps : (given : Setting) (admit : Admitted) (cube : List Trit) (n : Node) (place : ℕ) (why : step_flaw.Flaw) → IsOfInputs given cube
-    → HasBadStep given admit cube n place why → HasOnlySteps given admit cube n
-only_steps given admit cube (node.Split position) place why fits is = absurd is
-only_steps given admit cube (node.Bound domain bound) place why fits is = absurd is
-only_steps given admit cube (node.Point time) place why fits is = absurd is
-only_steps given admit cube node.Empty place why fits is = absurd is
-only_steps given admit cube (node.Refuted refuted) place why fits is = record {
+only_steps : (given : Setting) (asking : Asking) (cube : List Trit) (n : Node) (place : ℕ) (why : step_flaw.Flaw) → IsOfInputs given cube
+    → HasBadStep given asking cube n place why → HasOnlySteps given asking cube n
+only_steps given asking cube (node.Split position) place why fits is = absurd is
+only_steps given asking cube (node.Bound domain bound) place why fits is = absurd is
+only_steps given asking cube (node.Point time) place why fits is = absurd is
+only_steps given asking cube node.Empty place why fits is = absurd is
+only_steps given asking cube (node.Refuted refuted) place why fits is = record {
   splits = tt;
   one_pair = tt;
-  not_wrong = λ wrong. leaf_has_one_verdict.above_or_bad given admit cube refuted.steps refuted.bound place why fits wrong is;
-  not_of_cube = λ so. leaf_has_one_verdict.refuted_or_bad given admit cube refuted.steps refuted.bound place why fits so is;
+  not_wrong = λ wrong. leaf_has_one_verdict.above_or_bad given asking cube refuted.steps refuted.bound place why fits wrong is;
+  not_of_cube = λ so. leaf_has_one_verdict.refuted_or_bad given asking cube refuted.steps refuted.bound place why fits so is;
   says_more = λ says. says;
 }
 
-same_step : (given : Setting) (admit : Admitted) (cube : List Trit) (n : Node) (place other : ℕ) (why because : step_flaw.Flaw) → IsOfInputs given cube
-    → HasBadStep given admit cube n place why → HasBadStep given admit cube n other because → (place ≡ other) × (why ≡ because)
-same_step given admit cube (node.Split position) place other why because fits h k = absurd h
-same_step given admit cube (node.Bound domain bound) place other why because fits h k = absurd h
-same_step given admit cube (node.Point time) place other why because fits h k = absurd h
-same_step given admit cube node.Empty place other why because fits h k = absurd h
-same_step given admit cube (node.Refuted refuted) place other why because fits h k =
-    leaf_has_one_verdict.one_bad_step given admit cube refuted.steps place other why because fits h k
+same_step : (given : Setting) (asking : Asking) (cube : List Trit) (n : Node) (place other : ℕ) (why because : step_flaw.Flaw) → IsOfInputs given cube
+    → HasBadStep given asking cube n place why → HasBadStep given asking cube n other because → (place ≡ other) × (why ≡ because)
+same_step given asking cube (node.Split position) place other why because fits h k = absurd h
+same_step given asking cube (node.Bound domain bound) place other why because fits h k = absurd h
+same_step given asking cube (node.Point time) place other why because fits h k = absurd h
+same_step given asking cube node.Empty place other why because fits h k = absurd h
+same_step given asking cube (node.Refuted refuted) place other why because fits h k =
+    leaf_has_one_verdict.one_bad_step given asking cube refuted.steps place other why because fits h k
 
 -- a bad step is the only flaw of its line
-step_only : (given : Setting) (admit : Admitted) (most : ℕ) (line : Line) (place : ℕ) (why : step_flaw.Flaw) (that : Flaw) → IsOfInputs given line.cube
-    → HasOnlySteps given admit line.cube line.node → HasBadStep given admit line.cube line.node place why → HasFlaw given admit most that line → BadStep place why ≡ that
-step_only given admit most line place why Misplaced fits only h k = absurd (k only.splits)
-step_only given admit most line place why NotOnePair fits only h k = absurd (k.1 only.one_pair)
-step_only given admit most line place why WrongNumber fits only h k = absurd (only.not_wrong k.2)
-step_only given admit most line place why NotEmpty fits only h k = absurd (only.says_more k.3)
-step_only given admit most line place why AboveTime fits only h k = absurd (only.not_of_cube k.2)
-step_only given admit most line place why (BadStep other because) fits only h k =
-    let same = same_step given admit line.cube line.node place other why because fits h k in
+step_only : (given : Setting) (asking : Asking) (most : ℕ) (line : Line) (place : ℕ) (why : step_flaw.Flaw) (that : Flaw) → IsOfInputs given line.cube
+    → HasOnlySteps given asking line.cube line.node → HasBadStep given asking line.cube line.node place why → HasFlaw given asking most that line → BadStep place why ≡ that
+step_only given asking most line place why Misplaced fits only h k = absurd (k only.splits)
+step_only given asking most line place why NotOnePair fits only h k = absurd (k.1 only.one_pair)
+step_only given asking most line place why WrongNumber fits only h k = absurd (only.not_wrong k.2)
+step_only given asking most line place why NotEmpty fits only h k = absurd (only.says_more k.3)
+step_only given asking most line place why AboveTime fits only h k = absurd (only.not_of_cube k.2)
+step_only given asking most line place why (BadStep other because) fits only h k =
+    let same = same_step given asking line.cube line.node place other why because fits h k in
     ap (λ (p : ℕ). BadStep p why) same.0 ∙ ap (λ (w : step_flaw.Flaw). BadStep other w) same.1
 
-bad_step : (given : Setting) (admit : Admitted) (most : ℕ) (line : Line) (place : ℕ) (why : step_flaw.Flaw) (that : Flaw) → IsOfInputs given line.cube
-    → HasBadStep given admit line.cube line.node place why → HasFlaw given admit most that line → BadStep place why ≡ that
-bad_step given admit most line place why that fits h k =
-    step_only given admit most line place why that fits (only_steps given admit line.cube line.node place why fits h) h k
+bad_step : (given : Setting) (asking : Asking) (most : ℕ) (line : Line) (place : ℕ) (why : step_flaw.Flaw) (that : Flaw) → IsOfInputs given line.cube
+    → HasBadStep given asking line.cube line.node place why → HasFlaw given asking most that line → BadStep place why ≡ that
+bad_step given asking most line place why that fits h k =
+    step_only given asking most line place why that fits (only_steps given asking line.cube line.node place why fits h) h k
 
-one_flaw : (given : Setting) (admit : Admitted) (most : ℕ) (line : Line) (this that : Flaw) → IsOfInputs given line.cube → HasFlaw given admit most this line → HasFlaw given admit most that line
+one_flaw : (given : Setting) (asking : Asking) (most : ℕ) (line : Line) (this that : Flaw) → IsOfInputs given line.cube → HasFlaw given asking most this line → HasFlaw given asking most that line
     → this ≡ that
-one_flaw given admit most line Misplaced Misplaced p h k = refl
-one_flaw given admit most line Misplaced NotOnePair p h k = absurd (h k.0)
-one_flaw given admit most line Misplaced WrongNumber p h k = absurd (h k.0)
-one_flaw given admit most line Misplaced NotEmpty p h k = absurd (h k.0)
-one_flaw given admit most line Misplaced AboveTime p h k = absurd (h k.0)
-one_flaw given admit most line Misplaced (BadStep place why) p h k = sym (bad_step given admit most line place why Misplaced p k h)
-one_flaw given admit most line NotOnePair Misplaced p h k = absurd (k h.0)
-one_flaw given admit most line NotOnePair NotOnePair p h k = refl
-one_flaw given admit most line NotOnePair WrongNumber p h k = absurd (h.1 k.1)
-one_flaw given admit most line NotOnePair NotEmpty p h k = absurd (h.1 k.1)
-one_flaw given admit most line NotOnePair AboveTime p h k = absurd (h.1 k.1)
-one_flaw given admit most line NotOnePair (BadStep place why) p h k = sym (bad_step given admit most line place why NotOnePair p k h)
-one_flaw given admit most line WrongNumber Misplaced p h k = absurd (k h.0)
-one_flaw given admit most line WrongNumber NotOnePair p h k = absurd (k.1 h.1)
-one_flaw given admit most line WrongNumber WrongNumber p h k = refl
-one_flaw given admit most line WrongNumber NotEmpty p h k = not_empty given admit line.cube line.node h.2 k.3
-one_flaw given admit most line WrongNumber AboveTime p h k = not_so given admit line.cube line.node p h.2 k.2
-one_flaw given admit most line WrongNumber (BadStep place why) p h k = sym (bad_step given admit most line place why WrongNumber p k h)
-one_flaw given admit most line NotEmpty Misplaced p h k = absurd (k h.0)
-one_flaw given admit most line NotEmpty NotOnePair p h k = absurd (k.1 h.1)
-one_flaw given admit most line NotEmpty WrongNumber p h k = not_empty given admit line.cube line.node k.2 h.3
-one_flaw given admit most line NotEmpty NotEmpty p h k = refl
-one_flaw given admit most line NotEmpty AboveTime p h k = absurd (h.2 k.2)
-one_flaw given admit most line NotEmpty (BadStep place why) p h k = sym (bad_step given admit most line place why NotEmpty p k h)
-one_flaw given admit most line AboveTime Misplaced p h k = absurd (k h.0)
-one_flaw given admit most line AboveTime NotOnePair p h k = absurd (k.1 h.1)
-one_flaw given admit most line AboveTime WrongNumber p h k = not_so given admit line.cube line.node p k.2 h.2
-one_flaw given admit most line AboveTime NotEmpty p h k = absurd (k.2 h.2)
-one_flaw given admit most line AboveTime AboveTime p h k = refl
-one_flaw given admit most line AboveTime (BadStep place why) p h k = sym (bad_step given admit most line place why AboveTime p k h)
-one_flaw given admit most line (BadStep place why) that p h k = bad_step given admit most line place why that p h k
+one_flaw given asking most line Misplaced Misplaced p h k = refl
+one_flaw given asking most line Misplaced NotOnePair p h k = absurd (h k.0)
+one_flaw given asking most line Misplaced WrongNumber p h k = absurd (h k.0)
+one_flaw given asking most line Misplaced NotEmpty p h k = absurd (h k.0)
+one_flaw given asking most line Misplaced AboveTime p h k = absurd (h k.0)
+one_flaw given asking most line Misplaced (BadStep place why) p h k = sym (bad_step given asking most line place why Misplaced p k h)
+one_flaw given asking most line NotOnePair Misplaced p h k = absurd (k h.0)
+one_flaw given asking most line NotOnePair NotOnePair p h k = refl
+one_flaw given asking most line NotOnePair WrongNumber p h k = absurd (h.1 k.1)
+one_flaw given asking most line NotOnePair NotEmpty p h k = absurd (h.1 k.1)
+one_flaw given asking most line NotOnePair AboveTime p h k = absurd (h.1 k.1)
+one_flaw given asking most line NotOnePair (BadStep place why) p h k = sym (bad_step given asking most line place why NotOnePair p k h)
+one_flaw given asking most line WrongNumber Misplaced p h k = absurd (k h.0)
+one_flaw given asking most line WrongNumber NotOnePair p h k = absurd (k.1 h.1)
+one_flaw given asking most line WrongNumber WrongNumber p h k = refl
+one_flaw given asking most line WrongNumber NotEmpty p h k = not_empty given asking line.cube line.node h.2 k.3
+one_flaw given asking most line WrongNumber AboveTime p h k = not_so given asking line.cube line.node p h.2 k.2
+one_flaw given asking most line WrongNumber (BadStep place why) p h k = sym (bad_step given asking most line place why WrongNumber p k h)
+one_flaw given asking most line NotEmpty Misplaced p h k = absurd (k h.0)
+one_flaw given asking most line NotEmpty NotOnePair p h k = absurd (k.1 h.1)
+one_flaw given asking most line NotEmpty WrongNumber p h k = not_empty given asking line.cube line.node k.2 h.3
+one_flaw given asking most line NotEmpty NotEmpty p h k = refl
+one_flaw given asking most line NotEmpty AboveTime p h k = absurd (h.2 k.2)
+one_flaw given asking most line NotEmpty (BadStep place why) p h k = sym (bad_step given asking most line place why NotEmpty p k h)
+one_flaw given asking most line AboveTime Misplaced p h k = absurd (k h.0)
+one_flaw given asking most line AboveTime NotOnePair p h k = absurd (k.1 h.1)
+one_flaw given asking most line AboveTime WrongNumber p h k = not_so given asking line.cube line.node p k.2 h.2
+one_flaw given asking most line AboveTime NotEmpty p h k = absurd (k.2 h.2)
+one_flaw given asking most line AboveTime AboveTime p h k = refl
+one_flaw given asking most line AboveTime (BadStep place why) p h k = sym (bad_step given asking most line place why AboveTime p k h)
+one_flaw given asking most line (BadStep place why) that p h k = bad_step given asking most line place why that p h k
 
 -- a good line has no flaw
-flawless : {X : Type 0} (given : Setting) (admit : Admitted) (most : ℕ) (line : Line) (flaw : Flaw) → IsOfInputs given line.cube → IsGood given admit most line
-    → HasFlaw given admit most flaw line → X
-flawless given admit most line Misplaced p good h = absurd (h good.splits)
-flawless given admit most line NotOnePair p good h = absurd (h.1 good.one_pair)
-flawless given admit most line WrongNumber p good h = not_so given admit line.cube line.node p h.2 good.of_cube
-flawless given admit most line NotEmpty p good h = absurd (h.2 good.of_cube)
-flawless given admit most line AboveTime p good h = absurd (h.3 good.within)
-flawless given admit most line (BadStep place why) p good h =
-    absurd ((only_steps given admit line.cube line.node place why p h).not_of_cube good.of_cube)
+flawless : {X : Type 0} (given : Setting) (asking : Asking) (most : ℕ) (line : Line) (flaw : Flaw) → IsOfInputs given line.cube → IsGood given asking most line
+    → HasFlaw given asking most flaw line → X
+flawless given asking most line Misplaced p good h = absurd (h good.splits)
+flawless given asking most line NotOnePair p good h = absurd (h.1 good.one_pair)
+flawless given asking most line WrongNumber p good h = not_so given asking line.cube line.node p h.2 good.of_cube
+flawless given asking most line NotEmpty p good h = absurd (h.2 good.of_cube)
+flawless given asking most line AboveTime p good h = absurd (h.3 good.within)
+flawless given asking most line (BadStep place why) p good h =
+    absurd ((only_steps given asking line.cube line.node place why p h).not_of_cube good.of_cube)
 
 -- ---- the cubes of lines
 
@@ -174,28 +174,28 @@ before_place P (y ∷ xs) i zero x less all is = absurd (omega (arith, less))
 before_place P (y ∷ xs) zero (suc j) x less all is = subst P (some_is y x is) all.0
 before_place P (y ∷ xs) (suc i) (suc j) x less all is = before_place P xs i j x (omega (arith, less)) all.1 is
 
-one_place : (given : Setting) (admit : Admitted) (most : ℕ) (lines : List Line) (i j : ℕ) (x y : Line) (this that : Flaw) → IsOfInputs given x.cube → IsOfInputs given y.cube
+one_place : (given : Setting) (asking : Asking) (most : ℕ) (lines : List Line) (i j : ℕ) (x y : Line) (this that : Flaw) → IsOfInputs given x.cube → IsOfInputs given y.cube
     → slice_get lines i ≡ Some x → slice_get lines j ≡ Some y
-    → AllByRecursion (IsGood given admit most) (take i lines) → AllByRecursion (IsGood given admit most) (take j lines)
-    → HasFlaw given admit most this x → HasFlaw given admit most that y → (this ≡ that) × (i ≡ j)
-one_place given admit most lines i j x y this that x_fits y_fits at_i at_j good_i good_j h k =
+    → AllByRecursion (IsGood given asking most) (take i lines) → AllByRecursion (IsGood given asking most) (take j lines)
+    → HasFlaw given asking most this x → HasFlaw given asking most that y → (this ≡ that) × (i ≡ j)
+one_place given asking most lines i j x y this that x_fits y_fits at_i at_j good_i good_j h k =
     elim (cases_lt i j) [
-      | inl less ↦ flawless given admit most x this x_fits (before_place (IsGood given admit most) lines i j x less good_j at_i) h
+      | inl less ↦ flawless given asking most x this x_fits (before_place (IsGood given asking most) lines i j x less good_j at_i) h
       | inr high ↦ elim (cases_lt j i) [
-        | inl more ↦ flawless given admit most y that y_fits (before_place (IsGood given admit most) lines j i y more good_i at_j) k
+        | inl more ↦ flawless given asking most y that y_fits (before_place (IsGood given asking most) lines j i y more good_i at_j) k
         | inr low ↦
             let same : i ≡ j = omega (arith, high, low) in
             let line : x ≡ y = some_is x y (sym at_i ∙ ap (slice_get lines) same ∙ at_j) in
-            (one_flaw given admit most y this that y_fits (subst (HasFlaw given admit most this) line h) k, same)
+            (one_flaw given asking most y this that y_fits (subst (HasFlaw given asking most this) line h) k, same)
       ]
     ]
 
 -- the cubes of a certificate that admits its pair and has its time
-all_fit : (netlist : Netlist) (c : Certificate) (place : ℕ) (line : Line) → HasAdmittedPair c → HasItsTime netlist c → slice_get (lines_in c) place ≡ Some line
+all_fit : (netlist : Netlist) (c : Certificate) (place : ℕ) (line : Line) → HasAdmittedPair netlist c → HasItsTime netlist c → slice_get (lines_in c) place ≡ Some line
     → IsOfInputs (setting_of netlist c) line.cube
 all_fit netlist c place line admitted reached stands =
     let pins : List Trit = c.question.admit.pins in
-    let long = cube_fits pins c.pair.first c.pair.second admitted.pinned in
+    let long = cube_fits pins c.pair.first c.pair.second admitted.admitted.pinned in
     let fits = vector_fits (setting_of netlist c) c.pair.first c.pair.second c.time reached in
     let count : HasLength (2 * length netlist.inputs) pins = omega (arith, long.0, fits) in
     at_place (IsOfLength (2 * length netlist.inputs)) (lines_in c) place line (lines_fit (2 * length netlist.inputs) (pins ∷ []) c.tree (count, tt)) stands
@@ -203,7 +203,7 @@ all_fit netlist c place line admitted reached stands =
 one_bad : (netlist : Netlist) (c : Certificate) (this that : Flaw) (line other : ℕ) → IsFirstBad netlist c this line
     → IsFirstBad netlist c that other → (this ≡ that) × (line ≡ other)
 one_bad netlist c this that line other h k =
-    let found = one_place (setting_of netlist c) c.question.admit c.high (lines_in c) h.place k.place h.bad k.bad this that
+    let found = one_place (setting_of netlist c) (asking_of c.question) c.high (lines_in c) h.place k.place h.bad k.bad this that
     (all_fit netlist c h.place h.bad h.admitted h.reached h.stands) (all_fit netlist c k.place k.bad k.admitted k.reached k.stands)
     h.stands k.stands h.good_before k.good_before h.has k.has in
     let same : h.bad ≡ k.bad = some_is h.bad k.bad (sym h.stands ∙ ap (slice_get (lines_in c)) found.1 ∙ k.stands) in
@@ -216,7 +216,7 @@ one_bad netlist c this that line other h k =
 -- where all lines are good, none is bad
 not_bad : {X : Type 0} (netlist : Netlist) (c : Certificate) (flaw : Flaw) (line : ℕ) → Accepts netlist c → IsFirstBad netlist c flaw line → X
 not_bad netlist c flaw line accepts bad =
-    flawless (setting_of netlist c) c.question.admit c.high bad.bad flaw (all_fit netlist c bad.place bad.bad bad.admitted bad.reached bad.stands)
+    flawless (setting_of netlist c) (asking_of c.question) c.high bad.bad flaw (all_fit netlist c bad.place bad.bad bad.admitted bad.reached bad.stands)
     (at_place (IsGoodIn netlist c) (lines_in c) bad.place bad.bad accepts.good bad.stands) bad.has
 
 -- ---- verdicts
@@ -231,8 +231,8 @@ verdict_of (BadStep place why) line = verdict.BadStep line why
 
 data Reported (netlist : Netlist) (c : Certificate) (reported : Verdict) : Type 0 where
   other_circuit : reported ≡ verdict.OtherCircuit → (¬ IsOfSize netlist c) → Reported netlist c reported
-  not_admitted : reported ≡ verdict.PairNotAdmitted → IsOfSize netlist c → (¬ HasAdmittedPair c) → Reported netlist c reported
-  pair_time : reported ≡ verdict.PairTime → IsOfSize netlist c → HasAdmittedPair c → (¬ HasItsTime netlist c) → Reported netlist c reported
+  not_admitted : reported ≡ verdict.PairNotAdmitted → IsOfSize netlist c → (¬ HasAdmittedPair netlist c) → Reported netlist c reported
+  pair_time : reported ≡ verdict.PairTime → IsOfSize netlist c → HasAdmittedPair netlist c → (¬ HasItsTime netlist c) → Reported netlist c reported
   bad_line : (flaw : Flaw) (line : ℕ) → reported ≡ verdict_of flaw line → IsFirstBad netlist c flaw line → Reported netlist c reported
   all_good : reported ≡ verdict.Accepted → Accepts netlist c → Reported netlist c reported
 

@@ -6,7 +6,7 @@ use Rattle.td_circuit.specs.Run.{IsDelayOfBits}
 use Rattle.td_certificate.specs.declared.certificate.Certificate.{Certificate}
 use Rattle.td_certificate.specs.declared.question.Version.{Version}
 use Rattle.td_certificate.specs.declared.question.Version.TheVariants.{First, Second, Third, Fourth}
-use Rattle.td_certificate.specs.Questions.{Terms, Question}
+use Rattle.td_certificate.specs.Questions.{Terms, Question, asking_of}
 use Rattle.td_certificate.specs.Trees.{IsTree}
 use Rattle.td_certificate.specs.Spelling.{head_lines, high_lines, fields_of, field_line, HasSpelling}
 use Rattle.td_certificate.specs.Accepts.{lines_in, IsGood, IsOfSize, setting_of, HasItsTime, Accepts}
@@ -22,8 +22,8 @@ use Rattle.td_checker.specs.Judging.{flaw_of, IsBadAt, IsFoundBad, reported_as}
 pub setting_is : (netlist : Netlist) (moments : List ℕ) (c : Certificate) → moments ≡ c.question.moments → at_moments netlist moments ≡ setting_of netlist c
 setting_is netlist moments c e = ap (at_moments netlist) e
 
-first_bad : (netlist : Netlist) (c : Certificate) (flaw : Flaw) (before line : ℕ) → IsOfSize netlist c → HasAdmittedPair c → HasItsTime netlist c → IsTree c.tree
-    → line ≡ 1 + length (head_lines c) + before → IsBadAt (setting_of netlist c) c.question.admit c.high (lines_in c) flaw before → IsFirstBad netlist c flaw line
+first_bad : (netlist : Netlist) (c : Certificate) (flaw : Flaw) (before line : ℕ) → IsOfSize netlist c → HasAdmittedPair netlist c → HasItsTime netlist c → IsTree c.tree
+    → line ≡ 1 + length (head_lines c) + before → IsBadAt (setting_of netlist c) (asking_of c.question) c.high (lines_in c) flaw before → IsFirstBad netlist c flaw line
 first_bad netlist c flaw before line size admitted reached is_tree at bad = record {
   size = size;
   admitted = admitted;
@@ -37,8 +37,8 @@ first_bad netlist c flaw before line size admitted reached is_tree at bad = reco
   line_is = at ∙ ap (λ (n : ℕ). 1 + length (head_lines c) + n) bad.before_is;
 }
 
-reported : (netlist : Netlist) (c : Certificate) (flaw : code_flaw.Flaw) (at before line : ℕ) → IsOfSize netlist c → HasAdmittedPair c → HasItsTime netlist c
-    → IsTree c.tree → line ≡ 1 + length (head_lines c) + before → IsBadAt (setting_of netlist c) c.question.admit c.high (lines_in c) (flaw_of flaw at) before
+reported : (netlist : Netlist) (c : Certificate) (flaw : code_flaw.Flaw) (at before line : ℕ) → IsOfSize netlist c → HasAdmittedPair netlist c → HasItsTime netlist c
+    → IsTree c.tree → line ≡ 1 + length (head_lines c) + before → IsBadAt (setting_of netlist c) (asking_of c.question) c.high (lines_in c) (flaw_of flaw at) before
     → IsVerdictOn netlist c (reported_as flaw line)
 reported netlist c code.Misplaced at before line size admitted reached is_tree is bad = first_bad netlist c Misplaced before line size admitted reached is_tree is bad
 reported netlist c code.NotOnePair at before line size admitted reached is_tree is bad = first_bad netlist c NotOnePair before line size admitted reached is_tree is bad
@@ -49,22 +49,22 @@ reported netlist c (code.BadStep why) at before line size admitted reached is_tr
     (at - 1, first_bad netlist c (BadStep (at - 1) why) before line size admitted reached is_tree is bad)
 
 pub bad_reported : (netlist : Netlist) (moments : List ℕ) (c : Certificate) (bad : BadLine) (line : ℕ) → moments ≡ c.question.moments
-    → IsOfSize netlist c → HasAdmittedPair c → IsDelayOfBits (at_moments netlist moments) c.pair.first c.pair.second c.time
-    → IsTree c.tree → line ≡ 1 + length (head_lines c) + bad.before → IsFoundBad (at_moments netlist moments) c.question.admit c.high (lines_in c) bad
+    → IsOfSize netlist c → HasAdmittedPair netlist c → IsDelayOfBits (at_moments netlist moments) c.pair.first c.pair.second c.time
+    → IsTree c.tree → line ≡ 1 + length (head_lines c) + bad.before → IsFoundBad (at_moments netlist moments) (asking_of c.question) c.high (lines_in c) bad
     → IsVerdictOn netlist c (reported_as bad.flaw line)
 bad_reported netlist moments c bad line e size admitted reached is_tree is found =
     reported netlist c bad.flaw found.at bad.before line size admitted (subst (λ s. IsDelayOfBits s c.pair.first c.pair.second c.time) (setting_is netlist moments c e) reached) is_tree
-    is (subst (λ s. IsBadAt s c.question.admit c.high (lines_in c) (flaw_of bad.flaw found.at) bad.before) (setting_is netlist moments c e) found.bad)
+    is (subst (λ s. IsBadAt s (asking_of c.question) c.high (lines_in c) (flaw_of bad.flaw found.at) bad.before) (setting_is netlist moments c e) found.bad)
 
-pub accepted_reported : (netlist : Netlist) (moments : List ℕ) (c : Certificate) → moments ≡ c.question.moments → IsOfSize netlist c → HasAdmittedPair c
+pub accepted_reported : (netlist : Netlist) (moments : List ℕ) (c : Certificate) → moments ≡ c.question.moments → IsOfSize netlist c → HasAdmittedPair netlist c
     → IsDelayOfBits (at_moments netlist moments) c.pair.first c.pair.second c.time → IsTree c.tree
-    → AllByRecursion (IsGood (at_moments netlist moments) c.question.admit c.high) (lines_in c) → Accepts netlist c
+    → AllByRecursion (IsGood (at_moments netlist moments) (asking_of c.question) c.high) (lines_in c) → Accepts netlist c
 accepted_reported netlist moments c e size admitted reached is_tree good = record {
   size = size;
   admitted = admitted;
   reached = subst (λ s. IsDelayOfBits s c.pair.first c.pair.second c.time) (setting_is netlist moments c e) reached;
   tree = is_tree;
-  good = subst (λ s. AllByRecursion (IsGood s c.question.admit c.high) (lines_in c)) (setting_is netlist moments c e) good;
+  good = subst (λ s. AllByRecursion (IsGood s (asking_of c.question) c.high) (lines_in c)) (setting_is netlist moments c e) good;
 }
 
 -- the vectors of a certificate of this circuit are the circuit's

@@ -6,15 +6,14 @@ use Rattle.std.proofs.lemmas.List.{append-nil}
 use Rattle.std.proofs.Math.Seq.{take-append_seam}
 use Rattle.td_circuit.specs.Numbering.{Numbered, setting, IsNumbering}
 use Rattle.td_domain.specs.declared.cubes.Trit.{Trit}
-use Rattle.td_domain.specs.Admits.{Admitted}
 use Rattle.td_spans.specs.Conditions.{Asked}
 use Rattle.td_spans.specs.Lowering.{latest_of}
 use Rattle.td_refutation.specs.declared.flaw.Flaw as step_flaw
 use Rattle.td_refutation.specs.declared.kind.StepKind.{StepKind}
 use Rattle.td_refutation.specs.declared.refutation.Refutation.{Refutation}
-use Rattle.td_refutation.specs.Doing.{State, state_of, first_state, IsGood, after, flaw_of, AreGood, state_to}
+use Rattle.td_refutation.specs.Doing.{State, state_of, first_state, IsGood, AreGood, state_to}
 use Rattle.td_refutation.specs.Lines.{Step, deed_of}
-use Rattle.td_refutation.specs.Refuting.{all_admitted}
+use Rattle.td_refutation.specs.Asking.{Asking, asked_in}
 use Rattle.td_refutation.specs.Whole.{IsOfSetting, IsRefuted, IsFirstBad, IsBadStep}
 use Rattle.td_refutation.proofs.Lists.{IsLed, led_more}
 use Rattle.td_certificate.specs.declared.tree.Node.TheVariants as node
@@ -97,7 +96,7 @@ all_done circuit asked cube all left after_ place refutation numbers so_far none
 
 -- ---- what is found of the leaf
 
-module _ (circuit : Numbered) (numbering : IsNumbering circuit) (admit : Admitted) (time : ℕ) (cube : List Trit) (refuted : Refuted) (asked : Asked) (is : asked ≡ all_admitted admit) where
+module _ (circuit : Numbered) (numbering : IsNumbering circuit) (asking : Asking) (time : ℕ) (cube : List Trit) (refuted : Refuted) (asked : Asked) (is : asked ≡ asked_in circuit asking) where
   of_setting : IsOfSetting (setting circuit) circuit
   of_setting = record { numbering = numbering; is = refl }
 
@@ -105,43 +104,43 @@ module _ (circuit : Numbered) (numbering : IsNumbering circuit) (admit : Admitte
   line = with_cube cube (node.Refuted refuted)
 
   pub bad_step_found : (place : ℕ) (flaw : step_flaw.Flaw) → IsFirstBadStep circuit asked cube refuted.steps place flaw
-      → IsFlawed (setting circuit) admit time line (BadStep (1 + place - 1) flaw) (1 + place)
+      → IsFlawed (setting circuit) asking time line (BadStep (1 + place - 1) flaw) (1 + place)
   bad_step_found place flaw bad =
       let back : 1 + place - 1 ≡ place = omega arith in
       let below = slice_get_within refuted.steps place bad.first.step bad.first.stands in
-      let first : IsFirstBad circuit (all_admitted admit) cube refuted.steps place flaw = subst (λ (a : Asked). IsFirstBad circuit a cube refuted.steps place flaw) is bad.first in
-      let here : IsBadStep (setting circuit) admit cube refuted.steps place flaw = record { circuit = circuit; of_setting = of_setting; first = first } in
+      let first : IsFirstBad circuit (asked_in circuit asking) cube refuted.steps place flaw = subst (λ (a : Asked). IsFirstBad circuit a cube refuted.steps place flaw) is bad.first in
+      let here : IsBadStep (setting circuit) asking cube refuted.steps place flaw = record { circuit = circuit; of_setting = of_setting; first = first } in
       record {
-        has = subst (λ (p : ℕ). IsBadStep (setting circuit) admit cube refuted.steps p flaw) (sym back) here;
+        has = subst (λ (p : ℕ). IsBadStep (setting circuit) asking cube refuted.steps p flaw) (sym back) here;
         at_is = omega (arith, back);
         inside = omega (arith, below);
       }
 
   module _ (state : State) (count : ℕ) (given : AreAllDone circuit asked cube refuted.steps state count) where
-    done : AreAllDone circuit (all_admitted admit) cube refuted.steps state count
+    done : AreAllDone circuit (asked_in circuit asking) cube refuted.steps state count
     done = subst (λ (a : Asked). AreAllDone circuit a cube refuted.steps state count) is given
 
-    latest_is : latest_of (state_to circuit (first_state circuit (all_admitted admit) cube) refuted.steps).times circuit.outputs ≡ latest_of state.times circuit.outputs
+    latest_is : latest_of (state_to circuit (first_state circuit (asked_in circuit asking) cube) refuted.steps).times circuit.outputs ≡ latest_of state.times circuit.outputs
     latest_is = ap (λ (s : State). latest_of s.times circuit.outputs) (sym done.state_is)
 
-    pub above_bound_found : refuted.bound < latest_of state.times circuit.outputs → IsFlawed (setting circuit) admit time line WrongNumber (1 + count)
+    pub above_bound_found : refuted.bound < latest_of state.times circuit.outputs → IsFlawed (setting circuit) asking time line WrongNumber (1 + count)
     above_bound_found above = record {
       has = (tt, tt, record { circuit = circuit; of_setting = of_setting; good = done.good; above = omega (arith, above, latest_is) });
       at_is = omega (arith, done.count_is);
       inside = omega (arith, done.count_is);
     }
 
-    refuted_is : latest_of state.times circuit.outputs ≤ refuted.bound → IsRefuted (setting circuit) admit cube refuted.steps refuted.bound
+    refuted_is : latest_of state.times circuit.outputs ≤ refuted.bound → IsRefuted (setting circuit) asking cube refuted.steps refuted.bound
     refuted_is within = record { circuit = circuit; of_setting = of_setting; good = done.good; within = omega (arith, within, latest_is) }
 
-    pub above_time_found : latest_of state.times circuit.outputs ≤ refuted.bound → time < refuted.bound → IsFlawed (setting circuit) admit time line AboveTime (1 + count)
+    pub above_time_found : latest_of state.times circuit.outputs ≤ refuted.bound → time < refuted.bound → IsFlawed (setting circuit) asking time line AboveTime (1 + count)
     above_time_found within above = record {
       has = (tt, tt, refuted_is within, λ (le : refuted.bound ≤ time). omega (arith, le, above));
       at_is = omega (arith, done.count_is);
       inside = omega (arith, done.count_is);
     }
 
-    pub good_found : latest_of state.times circuit.outputs ≤ refuted.bound → refuted.bound ≤ time → IsGoodLine (setting circuit) admit time line (2 + count)
+    pub good_found : latest_of state.times circuit.outputs ≤ refuted.bound → refuted.bound ≤ time → IsGoodLine (setting circuit) asking time line (2 + count)
     good_found within below = record {
       good = record { splits = tt; one_pair = tt; of_cube = refuted_is within; within = below };
       count_is = omega (arith, done.count_is);

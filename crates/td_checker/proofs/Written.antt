@@ -32,12 +32,12 @@ use Rattle.td_certificate.specs.declared.tree.Node.TheVariants as node
 use Rattle.td_certificate.specs.Accepts.{IsGood, setting_of}
 use Rattle.td_certificate.proofs.Lengths.{searched_texts_fit}
 use Rattle.td_certificate.proofs.Acceptance.{cube_fits, vector_fits}
-use Rattle.td_certificate.proofs.FirstVersion.{has_admitted}
+use Rattle.td_certificate.proofs.FirstVersion.{may_lie}
 use Rattle.td_certificate.proofs.Told.{no_edges, edges_parts, are_terms, have_few, one_moment}
 use Rattle.td_certificate.specs.declared.question.Version.{Version}
 use Rattle.td_certificate.specs.declared.question.Version.TheVariants.{First, Fourth}
-use Rattle.td_certificate.specs.Questions.{Question, inputs_of, version_of}
-use Rattle.td_domain.specs.Admits.{Admitted}
+use Rattle.td_certificate.specs.Questions.{Question, inputs_of, version_of, asking_of}
+use Rattle.td_refutation.specs.Asking.{Asking}
 use Rattle.td_checker.specs.Written.{AcceptedIsWritten}
 use Rattle.td_checker.proofs.Lines.{count_behind}
 
@@ -87,23 +87,23 @@ small_delay given acyclic fit first second delay f s is =
 
 -- ---- numbers of a tree whose lines are good
 
-short_node : (given : Setting) (admit : Admitted) (most : ℕ) (cube : List Trit) (n : Node) → most < 10 ^ 15 → length cube ≤ 8192
-    → is_refuted n ≡ false → IsGood given admit most (record { cube = cube; node = n }) → IsShort n
-short_node given admit most cube (node.Split position) small few plain good = let inside = slice_get_within cube position Free good.splits in omega (arith, inside)
-short_node given admit most cube (node.Bound domain bound) small few plain good = omega (arith, good.within)
-short_node given admit most cube (node.Point time) small few plain good = omega (arith, good.within)
-short_node given admit most cube node.Empty small few plain good = tt
-short_node given admit most cube (node.Refuted refuted) small few plain good = absurd (let e : true ≡ false = plain in cc)
+short_node : (given : Setting) (asking : Asking) (most : ℕ) (cube : List Trit) (n : Node) → most < 10 ^ 15 → length cube ≤ 8192
+    → is_refuted n ≡ false → IsGood given asking most (record { cube = cube; node = n }) → IsShort n
+short_node given asking most cube (node.Split position) small few plain good = let inside = slice_get_within cube position Free good.splits in omega (arith, inside)
+short_node given asking most cube (node.Bound domain bound) small few plain good = omega (arith, good.within)
+short_node given asking most cube (node.Point time) small few plain good = omega (arith, good.within)
+short_node given asking most cube node.Empty small few plain good = tt
+short_node given asking most cube (node.Refuted refuted) small few plain good = absurd (let e : true ≡ false = plain in cc)
 
 -- a leaf without an admitted pair doesn't stand where the first version tells what is asked
 written_node : (given : Setting) (question : Question) (version : Version) (most : ℕ) (cube : List Trit) (n : Node) → (version ≢ Fourth → names_edges n ≡ false)
     → (version ≡ First → version_of question ≡ First) → length question.admit.pins ≡ 2 * inputs_of question
-    → length cube ≡ length question.admit.pins → IsShort n → IsGood given question.admit most (record { cube = cube; node = n }) → IsNode version n
+    → length cube ≡ length question.admit.pins → IsShort n → IsGood given (asking_of question) most (record { cube = cube; node = n }) → IsNode version n
 written_node given question version most cube (node.Split position) plain asked pins same short good = omega (arith, short)
 written_node given question version most cube (node.Bound domain bound) plain asked pins same short good = (omega (arith, short), plain)
 written_node given question version most cube (node.Point time) plain asked pins same short good = omega (arith, short)
 written_node given question version most cube (node.Refuted refuted) plain asked pins same short good = absurd short
-written_node given question version most cube node.Empty plain asked pins same short good = λ first. good.of_cube (has_admitted question cube (asked first) pins (same ∙ pins))
+written_node given question version most cube node.Empty plain asked pins same short good = λ first. good.of_cube (may_lie given.netlist question cube (asked first) pins (same ∙ pins))
 
 abbrev AllLong : ℕ → List (List Trit) → Type 0
 AllLong count cubes = AllByRecursion (λ cube. length cube ≡ count) cubes
@@ -123,13 +123,13 @@ first_plain n nodes none = cases (is_refuted n) (λ h. absurd (let e : has_refut
 
 written_nodes : (given : Setting) (question : Question) (version : Version) (most : ℕ) (nodes : List Node) (cubes : List (List Trit)) → (version ≢ Fourth → has_edges nodes ≡ false) → (version ≡ First → version_of question ≡ First) → most < 10 ^ 15 → length question.admit.pins ≤ 8192
     → length question.admit.pins ≡ 2 * inputs_of question → AllLong (length question.admit.pins) cubes
-    → pending_after (length cubes) nodes ≡ Some 0 → has_refuted nodes ≡ false → AllByRecursion (IsGood given question.admit most) (lines_from cubes nodes)
+    → pending_after (length cubes) nodes ≡ Some 0 → has_refuted nodes ≡ false → AllByRecursion (IsGood given (asking_of question) most) (lines_from cubes nodes)
     → AllByRecursion (IsWritten version) nodes
 written_nodes given question version most [] cubes edges asked small few pins long tree none good = tt
 written_nodes given question version most (n ∷ nodes) [] edges asked small few pins long tree none good = cc
 written_nodes given question version most (n ∷ nodes) (cube ∷ cubes) edges asked small few pins long tree none good =
     let plain = first_plain n nodes none in
-    let short = short_node given question.admit most cube n small (omega (arith, long.0, few)) plain.0 good.0 in (
+    let short = short_node given (asking_of question) most cube n small (omega (arith, long.0, few)) plain.0 good.0 in (
       (short, written_node given question version most cube n (λ other. (edges_parts n nodes (edges other)).0) asked pins long.0 short good.0),
       written_nodes given question version most nodes (cubes_past cube (position_of n) cubes) (λ other. (edges_parts n nodes (edges other)).1) asked small few pins (long_past (length question.admit.pins) cube n cubes long.0 long.1)
           (ap (λ (k : ℕ). pending_after k nodes) (count_behind cube n cubes) ∙ tree) plain.1 good.1,
@@ -148,7 +148,7 @@ are_nodes version (n ∷ nodes) all = (all.0.1, are_nodes version nodes all.1)
 pub accepted_is_written : AcceptedIsWritten
 accepted_is_written netlist_text reading netlist c reads acyclic fit flips accepts output asked can one few none =
     let given : Setting = setting_of netlist c in
-    let long = cube_fits c.question.admit.pins c.pair.first c.pair.second accepts.admitted.pinned in
+    let long = cube_fits c.question.admit.pins c.pair.first c.pair.second accepts.admitted.admitted.pinned in
     let first : length c.pair.first ≡ length netlist.inputs = vector_fits given c.pair.first c.pair.second c.time accepts.reached in
     let second : length c.pair.second ≡ length netlist.inputs = omega (arith, long.1, first) in
     let size = accepts.size.inputs in

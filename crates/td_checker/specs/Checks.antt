@@ -23,7 +23,7 @@ use Rattle.td_checker.specs.Verdicts.{IsVerdict}
 
 -- what the checker is told: the delays of gates that state none, and the output that is asked about
 abbrev pub told_terms : Delays → Option ℕ → Terms
-told_terms default output = record { default = default; outputs = option_map (λ number. number ∷ []) output }
+told_terms default output = record { default = default; outputs = option_map (λ number. number ∷ []) output; keep = [] }
 
 abbrev pub told_by : Reading → Option ℕ → Terms
 told_by reading output = told_terms reading.default output

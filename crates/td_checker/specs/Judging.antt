@@ -3,7 +3,7 @@ use Rattle.std.specs.Prelude.{◌≡◌, ℕ, ◌+◌, ◌-◌, ◌<◌, List, t
 use Rattle.std.specs.List.{AllByRecursion}
 use Rattle.td_circuit.specs.Settings.{Setting}
 use Rattle.td_domain.specs.declared.cubes.Trit.{Trit}
-use Rattle.td_domain.specs.Admits.{Admitted}
+use Rattle.td_refutation.specs.Asking.{Asking}
 use Rattle.td_certificate.specs.declared.tree.Node.{Node}
 use Rattle.td_certificate.specs.declared.tree.Node.TheVariants as node
 use Rattle.td_certificate.specs.Accepts.{IsGood}
@@ -35,44 +35,44 @@ wrong_flaw node.Empty = code.NotEmpty
 wrong_flaw _ = code.WrongNumber
 
 -- the line, which is one of the text, is good, or has this flaw
-abbrev pub IsJudgedLine : Setting → Admitted → ℕ → Line → Option code_flaw.Flaw → Type 0
-IsJudgedLine setting admit most line None = IsGood setting admit most line
-IsJudgedLine setting admit most line (Some flaw) = HasFlaw setting admit most (flaw_of flaw 0) line × (reported_at (flaw_of flaw 0) line.node ≡ 0)
+abbrev pub IsJudgedLine : Setting → Asking → ℕ → Line → Option code_flaw.Flaw → Type 0
+IsJudgedLine setting asking most line None = IsGood setting asking most line
+IsJudgedLine setting asking most line (Some flaw) = HasFlaw setting asking most (flaw_of flaw 0) line × (reported_at (flaw_of flaw 0) line.node ≡ 0)
 
 -- the line has this flaw, and `at` says at which of its node's lines
-pub record IsFlawed (setting : Setting) (admit : Admitted) (most : ℕ) (line : Line) (flaw : Flaw) (at : ℕ) : Type 0 where
-  pub has : HasFlaw setting admit most flaw line
+pub record IsFlawed (setting : Setting) (asking : Asking) (most : ℕ) (line : Line) (flaw : Flaw) (at : ℕ) : Type 0 where
+  pub has : HasFlaw setting asking most flaw line
   pub at_is : at ≡ reported_at flaw line.node
   pub inside : at < line_count line.node
 
 -- the line is good, and takes this number of the text's lines
-pub record IsGoodLine (setting : Setting) (admit : Admitted) (most : ℕ) (line : Line) (count : ℕ) : Type 0 where
-  pub good : IsGood setting admit most line
+pub record IsGoodLine (setting : Setting) (asking : Asking) (most : ℕ) (line : Line) (count : ℕ) : Type 0 where
+  pub good : IsGood setting asking most line
   pub count_is : count ≡ line_count line.node
 
-abbrev pub IsJudged : Setting → Admitted → ℕ → Line → code_judged.Judged → Type 0
-IsJudged setting admit most line (judged.Good count) = IsGoodLine setting admit most line count
-IsJudged setting admit most line (judged.Bad flaw at) = IsFlawed setting admit most line (flaw_of flaw at) at
+abbrev pub IsJudged : Setting → Asking → ℕ → Line → code_judged.Judged → Type 0
+IsJudged setting asking most line (judged.Good count) = IsGoodLine setting asking most line count
+IsJudged setting asking most line (judged.Bad flaw at) = IsFlawed setting asking most line (flaw_of flaw at) at
 
 -- One of these lines is the first bad one, and has this flaw. As many of the text's lines as
 -- `before` says stand before the flaw.
-pub record IsBadAt (setting : Setting) (admit : Admitted) (most : ℕ) (lines : List Line) (flaw : Flaw) (before : ℕ) : Type 0 where
+pub record IsBadAt (setting : Setting) (asking : Asking) (most : ℕ) (lines : List Line) (flaw : Flaw) (before : ℕ) : Type 0 where
   pub place : ℕ
   pub bad : Line
   pub stands : slice_get lines place ≡ Some bad
-  pub good_before : AllByRecursion (IsGood setting admit most) (take place lines)
-  pub has : HasFlaw setting admit most flaw bad
+  pub good_before : AllByRecursion (IsGood setting asking most) (take place lines)
+  pub has : HasFlaw setting asking most flaw bad
   pub before_is : before ≡ line_total (take place lines) + reported_at flaw bad.node
 
 -- a flaw of the code's, at whatever line a step's is
-pub record IsFoundBad (setting : Setting) (admit : Admitted) (most : ℕ) (lines : List Line) (reported : BadLine) : Type 0 where
+pub record IsFoundBad (setting : Setting) (asking : Asking) (most : ℕ) (lines : List Line) (reported : BadLine) : Type 0 where
   pub at : ℕ
-  pub bad : IsBadAt setting admit most lines (flaw_of reported.flaw at) reported.before
+  pub bad : IsBadAt setting asking most lines (flaw_of reported.flaw at) reported.before
 
 -- the lines are good, or this is the first bad one
-abbrev pub AreJudged : Setting → Admitted → ℕ → List Line → Option BadLine → Type 0
-AreJudged setting admit most lines None = AllByRecursion (IsGood setting admit most) lines
-AreJudged setting admit most lines (Some reported) = IsFoundBad setting admit most lines reported
+abbrev pub AreJudged : Setting → Asking → ℕ → List Line → Option BadLine → Type 0
+AreJudged setting asking most lines None = AllByRecursion (IsGood setting asking most) lines
+AreJudged setting asking most lines (Some reported) = IsFoundBad setting asking most lines reported
 
 -- the verdict that tells this flaw of a line
 abbrev pub reported_as : code_flaw.Flaw → ℕ → Verdict

@@ -4,13 +4,13 @@ use Rattle.std.specs.List.{AllByRecursion}
 use Rattle.td_nets.specs.Netlist.{Netlist}
 use Rattle.td_circuit.specs.Settings.{Setting}
 use Rattle.td_domain.specs.declared.cubes.Trit.{Trit}
-use Rattle.td_domain.specs.Admits.{Admitted, IsAdmitted}
+use Rattle.td_refutation.specs.Asking.{Asking, IsAskedAbout}
 use Rattle.td_certificate.specs.declared.tree.Node.{Node}
 use Rattle.td_certificate.specs.declared.tree.Node.TheVariants as node
 use Rattle.td_certificate.specs.declared.certificate.Certificate.{Certificate}
 use Rattle.td_refutation.specs.declared.flaw.Flaw as step_flaw
 use Rattle.td_refutation.specs.Whole.{IsBadStep, IsAboveBound}
-use Rattle.td_certificate.specs.Questions.{Terms}
+use Rattle.td_certificate.specs.Questions.{Terms, asking_of}
 use Rattle.td_certificate.specs.Trees.{IsTree}
 use Rattle.td_certificate.specs.Walks.{Line}
 use Rattle.td_certificate.specs.Spelling.{head_lines}
@@ -71,29 +71,29 @@ SaysEmpty node.Empty = Unit {0}
 SaysEmpty _ = ⊥
 
 -- what a leaf says isn't so: its number is too low, or isn't the pair's delay
-abbrev pub IsWrong : Setting → Admitted → List Trit → Node → Type 0
-IsWrong setting admit cube (node.Refuted refuted) = IsAboveBound setting admit cube refuted.steps refuted.bound
-IsWrong setting admit cube (node.Split position) = ⊥
-IsWrong setting admit cube node.Empty = ⊥
-IsWrong setting admit cube (node.Bound domain bound) = ¬ IsOfCube setting admit cube (node.Bound domain bound)
-IsWrong setting admit cube (node.Point time) = ¬ IsOfCube setting admit cube (node.Point time)
+abbrev pub IsWrong : Setting → Asking → List Trit → Node → Type 0
+IsWrong setting asking cube (node.Refuted refuted) = IsAboveBound setting asking cube refuted.steps refuted.bound
+IsWrong setting asking cube (node.Split position) = ⊥
+IsWrong setting asking cube node.Empty = ⊥
+IsWrong setting asking cube (node.Bound domain bound) = ¬ IsOfCube setting asking cube (node.Bound domain bound)
+IsWrong setting asking cube (node.Point time) = ¬ IsOfCube setting asking cube (node.Point time)
 
 -- the step at this place of a leaf that is refuted is its first that isn't good, for this reason
-abbrev pub HasBadStep : Setting → Admitted → List Trit → Node → ℕ → step_flaw.Flaw → Type 0
-HasBadStep setting admit cube (node.Refuted refuted) place why = IsBadStep setting admit cube refuted.steps place why
-HasBadStep setting admit cube n place why = ⊥
+abbrev pub HasBadStep : Setting → Asking → List Trit → Node → ℕ → step_flaw.Flaw → Type 0
+HasBadStep setting asking cube (node.Refuted refuted) place why = IsBadStep setting asking cube refuted.steps place why
+HasBadStep setting asking cube n place why = ⊥
 
 -- the line has this flaw, and none that is looked for before it
-abbrev pub HasFlaw : Setting → Admitted → ℕ → Flaw → Line → Type 0
-HasFlaw setting admit most Misplaced line = ¬ SplitsFree line.cube line.node
-HasFlaw setting admit most NotOnePair line = SplitsFree line.cube line.node × (¬ IsOfOnePair line.cube line.node)
-HasFlaw setting admit most WrongNumber line =
-    SplitsFree line.cube line.node × IsOfOnePair line.cube line.node × IsWrong setting admit line.cube line.node
-HasFlaw setting admit most NotEmpty line =
-    SplitsFree line.cube line.node × IsOfOnePair line.cube line.node × (¬ IsOfCube setting admit line.cube line.node) × SaysEmpty line.node
-HasFlaw setting admit most AboveTime line =
-    SplitsFree line.cube line.node × IsOfOnePair line.cube line.node × IsOfCube setting admit line.cube line.node × (¬ IsWithin most line.node)
-HasFlaw setting admit most (BadStep place why) line = HasBadStep setting admit line.cube line.node place why
+abbrev pub HasFlaw : Setting → Asking → ℕ → Flaw → Line → Type 0
+HasFlaw setting asking most Misplaced line = ¬ SplitsFree line.cube line.node
+HasFlaw setting asking most NotOnePair line = SplitsFree line.cube line.node × (¬ IsOfOnePair line.cube line.node)
+HasFlaw setting asking most WrongNumber line =
+    SplitsFree line.cube line.node × IsOfOnePair line.cube line.node × IsWrong setting asking line.cube line.node
+HasFlaw setting asking most NotEmpty line =
+    SplitsFree line.cube line.node × IsOfOnePair line.cube line.node × (¬ IsOfCube setting asking line.cube line.node) × SaysEmpty line.node
+HasFlaw setting asking most AboveTime line =
+    SplitsFree line.cube line.node × IsOfOnePair line.cube line.node × IsOfCube setting asking line.cube line.node × (¬ IsWithin most line.node)
+HasFlaw setting asking most (BadStep place why) line = HasBadStep setting asking line.cube line.node place why
 
 -- ---- lines of the text
 
@@ -123,20 +123,20 @@ reported_at AboveTime n = last_line n
 
 -- the flaw of a line of this certificate, and a good line of it, for this netlist
 abbrev pub HasFlawIn : Netlist → Certificate → Flaw → Line → Type 0
-HasFlawIn netlist c = HasFlaw (setting_of netlist c) c.question.admit c.high
+HasFlawIn netlist c = HasFlaw (setting_of netlist c) (asking_of c.question) c.high
 
 abbrev pub IsGoodIn : Netlist → Certificate → Line → Type 0
-IsGoodIn netlist c = IsGood (setting_of netlist c) c.question.admit c.high
+IsGoodIn netlist c = IsGood (setting_of netlist c) (asking_of c.question) c.high
 
--- the certificate's pair is admitted
-abbrev pub HasAdmittedPair : Certificate → Type 0
-HasAdmittedPair c = IsAdmitted c.question.admit c.pair
+-- the certificate's pair is admitted, and keeps the conditions
+abbrev pub HasAdmittedPair : Netlist → Certificate → Type 0
+HasAdmittedPair netlist c = IsAskedAbout netlist (asking_of c.question) c.pair
 
 -- The certificate is of this circuit and its pair is admitted and has its time, and this line of
 -- the text is the first bad one: it has this flaw, and those before it in the tree are good.
 pub record IsFirstBad (netlist : Netlist) (c : Certificate) (flaw : Flaw) (line : ℕ) : Type 0 where
   pub size : IsOfSize netlist c
-  pub admitted : HasAdmittedPair c
+  pub admitted : HasAdmittedPair netlist c
   pub reached : HasItsTime netlist c
   pub tree : IsTree c.tree
   pub place : ℕ
@@ -171,8 +171,8 @@ abbrev pub IsVerdictOn : Netlist → Certificate → Verdict → Type 0
 IsVerdictOn netlist c verdict.Accepted = Accepts netlist c
 IsVerdictOn netlist c verdict.OtherCircuit = ¬ IsOfSize netlist c
 IsVerdictOn netlist c (verdict.OtherQuestion line) = ⊥
-IsVerdictOn netlist c verdict.PairNotAdmitted = IsOfSize netlist c × (¬ HasAdmittedPair c)
-IsVerdictOn netlist c verdict.PairTime = IsOfSize netlist c × HasAdmittedPair c × (¬ HasItsTime netlist c)
+IsVerdictOn netlist c verdict.PairNotAdmitted = IsOfSize netlist c × (¬ HasAdmittedPair netlist c)
+IsVerdictOn netlist c verdict.PairTime = IsOfSize netlist c × HasAdmittedPair netlist c × (¬ HasItsTime netlist c)
 IsVerdictOn netlist c (verdict.BadPosition line) = IsFirstBad netlist c Misplaced line
 IsVerdictOn netlist c (verdict.NotAPoint line) = IsFirstBad netlist c NotOnePair line
 IsVerdictOn netlist c (verdict.LeafBound line) = IsFirstBad netlist c WrongNumber line

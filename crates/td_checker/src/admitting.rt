@@ -3,10 +3,15 @@
 ghost use Rattle.std.specs.Prelude.{◌≡◌, ◌↔◌, length, IfOk, IsTrue};
 ghost use Rattle.td_domain.specs.Admits.{IsAdmitted};
 ghost use Rattle.td_domain.specs.Sheets.{known};
+ghost use Rattle.td_certificate.specs.Questions.{asking_of, inputs_of};
+ghost use Rattle.td_refutation.specs.Asking.{IsAskedAbout};
 ghost use Rattle.td_checker.specs.PairCubes.{cube_of};
 
 use std::alloc::{AllocError, Global};
+use td_certificate::Question;
+use td_circuit::Circuit;
 use td_domain::{Admit, Cube, Pair, Trit};
+use td_refutation::is_kept;
 
 /// The trit that allows this bit alone.
 fn trit_of(bit: bool) -> Trit
@@ -28,9 +33,9 @@ fn cube_of(alloc: Global, pair: &Pair) -> Result<Cube, AllocError>
     Ok(Cube::new(trits))
 }
 
-/// Whether a pair is admitted, which has a bit in each vector for each input.
+// Whether a pair is admitted, which has a bit in each vector for each input.
 #[tactic(auto, using(crate::proofs::PairCubes::long_cube, crate::proofs::PairCubes::alone))]
-pub fn is_admitted(alloc: Global, admit: &Admit, pair: &Pair) -> Result<bool, AllocError>
+fn is_admitted(alloc: Global, admit: &Admit, pair: &Pair) -> Result<bool, AllocError>
     requires first { length pair.now.first ≡ length admit.now.held }
     requires second { length pair.now.second ≡ length admit.now.held }
     ensures { IfOk result (λ is. IsTrue is ↔ IsAdmitted admit.now pair.now) }
@@ -39,4 +44,22 @@ pub fn is_admitted(alloc: Global, admit: &Admit, pair: &Pair) -> Result<bool, Al
     let _pins = admit.pins();
     let cube = cube_of(alloc, pair)?;
     Ok(admit.any(&cube))
+}
+
+/// Whether a pair is one of those that are asked about: it is admitted, and keeps the conditions.
+pub fn is_asked_about(
+    alloc: Global,
+    circuit: &Circuit,
+    question: &Question,
+    pair: &Pair,
+) -> Result<bool, AllocError>
+    requires inputs { length circuit.now.netlist.inputs ≡ inputs_of question.now }
+    requires first { length pair.now.first ≡ inputs_of question.now }
+    requires second { length pair.now.second ≡ inputs_of question.now }
+    ensures { IfOk result (λ is. IsTrue is ↔ IsAskedAbout circuit.now.netlist (asking_of question.now) pair.now) }
+{
+    if !is_admitted(alloc, question.admit(), pair)? {
+        return Ok(false);
+    }
+    is_kept(alloc, circuit, question.keep(), pair)
 }

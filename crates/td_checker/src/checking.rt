@@ -4,6 +4,7 @@ ghost use Rattle.std.specs.Prelude.{◌≡◌, ◌≤◌, ◌<◌, ◌+◌, ◌*
 ghost use Rattle.td_nets.specs.WellFormed.{IsWellFormed};
 ghost use Rattle.td_circuit.specs.Numbering.{setting};
 ghost use Rattle.td_circuit.specs.Run.{IsDelayOfBits};
+ghost use Rattle.td_certificate.specs.Questions.{asking_of};
 ghost use Rattle.td_certificate.specs.Accepts.{lines_in, IsOfSize};
 ghost use Rattle.td_certificate.specs.Faults.{IsWithinLimit};
 ghost use Rattle.td_certificate.specs.Spelling.{head_lines, HasSpelling, Spells};
@@ -13,8 +14,9 @@ ghost use Rattle.td_checker.specs.Verdicts.{AreCompared, IsVerdictOn, IsVerdict,
 ghost use Rattle.td_checker.specs.declared.verdict.Verdict.{Verdict as Reported};
 ghost use Rattle.td_checker.specs.Checks.{HaveVerdict, IsCheckFault, IsCertificateFault, IsReportedAs, TellsTruth, told_terms};
 
-use crate::admitting::is_admitted;
+use crate::admitting::is_asked_about;
 use crate::judging::{Flaw, Judged, judge};
+use crate::order::are_fit;
 use crate::verdict::{CheckFault, Checked, Verdict};
 use crate::walking::Walk;
 use std::alloc::{AllocError, Global};
@@ -44,18 +46,18 @@ fn first_bad(
     requires pins { length certificate.now.question.admit.pins ≡ 2 * length circuit.now.netlist.inputs }
     requires held { length certificate.now.question.admit.held ≡ length circuit.now.netlist.inputs }
     requires few { line_total (lines_in certificate.now) ≤ 268435456 }
-    ensures judged { IfOk result (λ found. AreJudged (setting circuit.now) certificate.now.question.admit certificate.now.high (lines_in certificate.now) found) }
+    ensures judged { IfOk result (λ found. AreJudged (setting circuit.now) (asking_of certificate.now.question) certificate.now.high (lines_in certificate.now) found) }
     ensures before { IfOk result (λ found. IfSome found (λ bad. bad.before < 268435456)) }
 {
-    let admit = certificate.question.admit();
-    let mut walk = Walk::new(alloc, admit.pins())?;
+    let question = &certificate.question;
+    let mut walk = Walk::new(alloc, question.admit().pins())?;
     let mut before = 0;
     for node in certificate.tree.nodes() {
         match judge(
             alloc,
             scratch,
             circuit,
-            admit,
+            question,
             certificate.high,
             &walk.cube,
             node,
@@ -102,12 +104,17 @@ fn reported_of(flaw: Flaw, line: u32) -> Verdict
     }
 }
 
-/// Whether a certificate is of a circuit with as many inputs and gates as this one.
+/// Whether a certificate is of a circuit with as many inputs and gates as this one, and its
+/// conditions are on nets of it.
 pub fn is_of_size(circuit: &Circuit, certificate: &Certificate) -> bool
     ensures { IsTrue result ↔ IsOfSize circuit.now.netlist certificate.now }
 {
     circuit.input_count() == certificate.question.inputs()
         && circuit.gates().len() == certificate.gates as usize
+        && are_fit(
+            2 + certificate.question.inputs() as u64 + u64::from(certificate.gates),
+            certificate.question.keep(),
+        )
 }
 
 /// Whether the certificate's pair has its time.
@@ -138,7 +145,7 @@ fn verdict_of_lines(
     requires few { line_total (lines_in certificate.now) ≤ 268435456 }
     ensures { IfOk result (λ verdict. IsVerdictOn circuit.now.netlist certificate.now verdict) }
 {
-    if !is_admitted(alloc, certificate.question.admit(), &certificate.pair)? {
+    if !is_asked_about(alloc, circuit, &certificate.question, &certificate.pair)? {
         return Ok(Verdict::PairNotAdmitted);
     }
     let mut scratch = Scratch::new(alloc, circuit)?;

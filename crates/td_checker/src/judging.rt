@@ -5,19 +5,21 @@ ghost use Rattle.td_circuit.specs.Numbering.{setting};
 ghost use Rattle.td_domain.specs.Cubes.{IsPoint};
 ghost use Rattle.td_certificate.specs.Accepts.{IsBoundBy, SplitsFree, IsOfOnePair, IsBounded, HasDelay, IsOfCube, IsWithin};
 ghost use Rattle.td_event_sim.specs.Scratch.{IsFor};
+ghost use Rattle.td_certificate.specs.Questions.{asking_of};
 ghost use Rattle.td_certificate.specs.Trees.{is_refuted};
+ghost use Rattle.td_refutation.specs.Asking.{MayLie};
 ghost use Rattle.td_checker.specs.Judging.{with_cube, wrong_flaw, IsJudged, IsJudgedLine};
 
 use crate::pairs::pair_of;
 use crate::refuting::judge_refuted;
 use std::alloc::{AllocError, Global};
 use td_arrival::Arrival;
-use td_certificate::{BoundedBy, Node};
+use td_certificate::{BoundedBy, Node, Question};
 use td_circuit::Circuit;
-use td_domain::{Admit, Both, Cube, Trit, bound};
+use td_domain::{Both, Cube, Trit, bound};
 use td_edges::Edges;
 use td_event_sim::{Scratch, delay_of};
-use td_refutation::Flaw as StepFlaw;
+use td_refutation::{Flaw as StepFlaw, is_broken};
 use td_ternary::Possible;
 
 /// What is wrong with a node.
@@ -30,7 +32,7 @@ pub enum Flaw {
     /// A bound less than the domain's or of a domain that gives none, or a time that isn't the
     /// pair's delay.
     WrongNumber,
-    /// An admitted pair lies in the cube of a leaf that says that none does.
+    /// An admitted pair may lie in the cube of a leaf that says that none does.
     NotEmpty,
     /// The number of a leaf is above the time.
     AboveTime,
@@ -51,22 +53,22 @@ pub fn judge(
     alloc: Global,
     scratch: &mut Scratch,
     circuit: &Circuit,
-    admit: &Admit,
+    question: &Question,
     time: u64,
     cube: &Cube,
     node: &Node,
 ) -> Result<Judged, AllocError>
     requires scratch { IsFor circuit.now scratch.old }
     requires cube { length cube.now ≡ 2 * length circuit.now.netlist.inputs }
-    requires pins { length cube.now ≡ length admit.now.pins }
-    requires held { length admit.now.held ≡ length circuit.now.netlist.inputs }
+    requires pins { length cube.now ≡ length question.now.admit.pins }
+    requires held { length question.now.admit.held ≡ length circuit.now.netlist.inputs }
     ensures scratch { IsFor circuit.now scratch.new }
-    ensures judged { IfOk result (IsJudged (setting circuit.now) admit.now time (with_cube cube.now node.now)) }
+    ensures judged { IfOk result (IsJudged (setting circuit.now) (asking_of question.now) time (with_cube cube.now node.now)) }
 {
     match node {
-        Node::Refuted(refuted) => judge_refuted(alloc, circuit, admit, time, cube, refuted),
+        Node::Refuted(refuted) => judge_refuted(alloc, circuit, question, time, cube, refuted),
         Node::Split(_) | Node::Bound(_, _) | Node::Point(_) | Node::Empty => {
-            match judge_line(alloc, scratch, circuit, admit, time, cube, node)? {
+            match judge_line(alloc, scratch, circuit, question, time, cube, node)? {
                 Some(flaw) => Ok(Judged::Bad(flaw, 0)),
                 None => Ok(Judged::Good(1)),
             }
@@ -79,7 +81,7 @@ fn judge_line(
     alloc: Global,
     scratch: &mut Scratch,
     circuit: &Circuit,
-    admit: &Admit,
+    question: &Question,
     time: u64,
     cube: &Cube,
     node: &Node,
@@ -87,9 +89,9 @@ fn judge_line(
     requires line { is_refuted node.now ≡ false }
     requires scratch { IsFor circuit.now scratch.old }
     requires cube { length cube.now ≡ 2 * length circuit.now.netlist.inputs }
-    requires pins { length cube.now ≡ length admit.now.pins }
+    requires pins { length cube.now ≡ length question.now.admit.pins }
     ensures scratch { IsFor circuit.now scratch.new }
-    ensures judged { IfOk result (IsJudgedLine (setting circuit.now) admit.now time (with_cube cube.now node.now)) }
+    ensures judged { IfOk result (IsJudgedLine (setting circuit.now) (asking_of question.now) time (with_cube cube.now node.now)) }
 {
     if !splits_free(cube, node) {
         return Ok(Some(Flaw::Misplaced));
@@ -97,7 +99,7 @@ fn judge_line(
     if !is_of_one_pair(cube, node) {
         return Ok(Some(Flaw::NotOnePair));
     }
-    if !is_of_cube(alloc, scratch, circuit, admit, cube, node)? {
+    if !is_of_cube(alloc, scratch, circuit, question, cube, node)? {
         return Ok(Some(wrong(node)));
     }
     if !is_within(time, node) {
@@ -141,28 +143,45 @@ fn is_of_one_pair(cube: &Cube, node: &Node) -> bool
     }
 }
 
+/// Whether an admitted pair may lie in a cube: one lies there, and the cube breaks no condition.
+fn may_lie(
+    alloc: Global,
+    circuit: &Circuit,
+    question: &Question,
+    cube: &Cube,
+) -> Result<bool, AllocError>
+    requires length { length cube.now ≡ 2 * length circuit.now.netlist.inputs }
+    requires pins { length cube.now ≡ length question.now.admit.pins }
+    ensures { IfOk result (λ may. IsTrue may ↔ MayLie circuit.now.netlist (asking_of question.now) cube.now) }
+{
+    if !question.admit().any(cube) {
+        return Ok(false);
+    }
+    Ok(!is_broken(alloc, circuit, question.keep(), cube)?)
+}
+
 /// Whether what a leaf says is true of its cube.
 fn is_of_cube(
     alloc: Global,
     scratch: &mut Scratch,
     circuit: &Circuit,
-    admit: &Admit,
+    question: &Question,
     cube: &Cube,
     node: &Node,
 ) -> Result<bool, AllocError>
     requires line { is_refuted node.now ≡ false }
     requires scratch { IsFor circuit.now scratch.old }
     requires length { length cube.now ≡ 2 * length circuit.now.netlist.inputs }
-    requires pins { length cube.now ≡ length admit.now.pins }
+    requires pins { length cube.now ≡ length question.now.admit.pins }
     requires pair { IsOfOnePair cube.now node.now }
     ensures scratch { IsFor circuit.now scratch.new }
-    ensures is { IfOk result (λ is. IsTrue is ↔ IsOfCube (setting circuit.now) admit.now cube.now node.now) }
+    ensures is { IfOk result (λ is. IsTrue is ↔ IsOfCube (setting circuit.now) (asking_of question.now) cube.now node.now) }
 {
     match node {
         Node::Split(_) | Node::Refuted(_) => Ok(true),
         Node::Bound(domain, most) => is_bounded(alloc, circuit, cube, *domain, *most),
         Node::Point(delay) => has_delay(alloc, scratch, circuit, cube, *delay),
-        Node::Empty => Ok(!admit.any(cube)),
+        Node::Empty => Ok(!may_lie(alloc, circuit, question, cube)?),
     }
 }
 

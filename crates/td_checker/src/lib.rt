@@ -5,6 +5,7 @@ mod admitting;
 mod checking;
 mod judging;
 pub mod laws;
+mod order;
 mod pairs;
 mod refuting;
 mod verdict;

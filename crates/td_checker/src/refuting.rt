@@ -4,17 +4,17 @@ ghost use Rattle.std.specs.Prelude.{◌≡◌, ◌*◌, length, Option, IfOk};
 ghost use Rattle.td_circuit.specs.Numbering.{setting};
 ghost use Rattle.td_certificate.specs.declared.tree.Node.TheVariants.{Refuted as RefutedNode};
 ghost use Rattle.td_refutation.specs.Doing.{state_of, first_state};
-ghost use Rattle.td_refutation.specs.Refuting.{all_admitted};
+ghost use Rattle.td_certificate.specs.Questions.{asking_of};
 ghost use Rattle.td_checker.specs.Judging.{with_cube, IsJudged};
 ghost use Rattle.td_checker.specs.Stepping.{IsStepped, AreStepped};
 
 use crate::judging::{Flaw, Judged};
 use std::alloc::{AllocError, Global};
-use td_certificate::Refuted;
+use td_certificate::{Question, Refuted};
 use td_circuit::Circuit;
-use td_domain::{Admit, Cube};
-use td_refutation::{Flaw as StepFlaw, Refutation, StepError, StepKind};
-use td_spans::Question;
+use td_domain::Cube;
+use td_refutation::{Flaw as StepFlaw, Refutation, StepError, StepKind, question_on};
+use td_spans::Question as Asked;
 
 /// What steps came to: all of them are good, and this is their number, or the one at this place
 /// isn't, for this reason.
@@ -24,19 +24,11 @@ pub enum Stepped {
     Bad(usize, StepFlaw),
 }
 
-/// The question of the admitted pairs, without a condition.
-fn asked_of(alloc: Global, admit: &Admit) -> Result<Question, AllocError>
-    ensures { IfOk result (λ question. question ≡ all_admitted admit.now) }
-{
-    let admit = admit.copy(alloc)?;
-    Ok(Question::new(admit, Vec::new(alloc)))
-}
-
 /// Does a step, and answers why it isn't good, where it isn't.
 fn do_step(
     alloc: Global,
     circuit: &Circuit,
-    question: &Question,
+    question: &Asked,
     cube: &Cube,
     refutation: &mut Refutation,
     kind: StepKind,
@@ -55,7 +47,7 @@ fn do_step(
 fn do_steps(
     alloc: Global,
     circuit: &Circuit,
-    question: &Question,
+    question: &Asked,
     cube: &Cube,
     refuted: &Refuted,
     refutation: &mut Refutation,
@@ -79,20 +71,20 @@ fn do_steps(
 pub fn judge_refuted(
     alloc: Global,
     circuit: &Circuit,
-    admit: &Admit,
+    question: &Question,
     time: u64,
     cube: &Cube,
     refuted: &Refuted,
 ) -> Result<Judged, AllocError>
     requires cube { length cube.now ≡ 2 * length circuit.now.netlist.inputs }
-    requires held { length admit.now.held ≡ length circuit.now.netlist.inputs }
-    ensures { IfOk result (IsJudged (setting circuit.now) admit.now time (with_cube cube.now (RefutedNode refuted.now))) }
+    requires held { length question.now.admit.held ≡ length circuit.now.netlist.inputs }
+    ensures { IfOk result (IsJudged (setting circuit.now) (asking_of question.now) time (with_cube cube.now (RefutedNode refuted.now))) }
 {
     // For the prover: this call says that the gates are in order.
     let _gates = circuit.gates();
-    let question = asked_of(alloc, admit)?;
-    let mut refutation = Refutation::new(alloc, circuit, &question, cube)?;
-    match do_steps(alloc, circuit, &question, cube, refuted, &mut refutation)? {
+    let asked = question_on(alloc, circuit, question.admit(), question.keep())?;
+    let mut refutation = Refutation::new(alloc, circuit, &asked, cube)?;
+    match do_steps(alloc, circuit, &asked, cube, refuted, &mut refutation)? {
         Stepped::Bad(place, flaw) => Ok(Judged::Bad(Flaw::BadStep(flaw), 1 + place)),
         Stepped::Done(count) => {
             if refutation.bound(circuit) > refuted.bound() {

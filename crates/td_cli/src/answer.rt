@@ -157,6 +157,7 @@ fn terms_of(
         rise: read.default.rise,
         fall: read.default.fall,
         outputs,
+        keep: Vec::new(alloc),
     }))
 }
 

@@ -29,6 +29,7 @@ fn versions_of_questions(rt: HostRuntime) -> Result<(), Fail> {
         rise: 1,
         fall: 1,
         outputs: None,
+        keep: Vec::new(alloc),
     });
     assert_eq!(rt; told.version(), Version::Fourth);
     Ok(())

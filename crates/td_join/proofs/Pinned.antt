@@ -7,12 +7,17 @@ use Rattle.td_domain.specs.declared.cubes.Trit.{Trit}
 use Rattle.td_domain.specs.Admits.{Admitted}
 use Rattle.td_edges.specs.declared.signals.Signal.{Signal}
 use Rattle.td_spans.specs.Signals.{times_from, input_at, inputs_to, gates_from, first_times}
+use Rattle.td_refutation.specs.Asking.{Asking}
 use Rattle.td_refutation.specs.Lines.{Step}
 use Rattle.td_refutation.specs.Whole.{IsRefuted}
 use Rattle.td_refutation.proofs.Questions.{refuted_goes}
 
 abbrev pub same_pairs : Admitted → List Trit → Admitted
 same_pairs admit pins = record admit { pins = pins }
+
+-- the same conditions on pairs with these pins
+abbrev pub same_asking : Asking → List Trit → Asking
+same_asking asking pins = record { admit = same_pairs asking.admit pins; keep = asking.keep }
 
 module _ (circuit : Numbered) (admit : Admitted) (own cube : List Trit) where
   inputs_same : (inputs n : ℕ) → inputs_to (same_pairs admit own) cube circuit.moments inputs n ≡ inputs_to admit cube circuit.moments inputs n
@@ -22,8 +27,8 @@ module _ (circuit : Numbered) (admit : Admitted) (own cube : List Trit) where
   times_same : first_times circuit (same_pairs admit own) cube ≡ first_times circuit admit cube
   times_same = ap (λ (signals : List Signal). map times_from (gates_from signals circuit.gates)) (inputs_same (length circuit.netlist.inputs) (length circuit.netlist.inputs))
 
-pub refuted_wider : (given : Setting) (admit : Admitted) (own cube : List Trit) (steps : List Step) (bound : ℕ) → IsRefuted given (same_pairs admit own) cube steps bound
-    → IsRefuted given admit cube steps bound
-refuted_wider given admit own cube steps bound =
-    refuted_goes given (same_pairs admit own) admit cube cube steps bound (λ circuit _.
-    record { times = times_same circuit admit own cube; pairs = λ variables clause is. is; keep = λ variables clause is. is })
+pub refuted_wider : (given : Setting) (asking : Asking) (own cube : List Trit) (steps : List Step) (bound : ℕ) → IsRefuted given (same_asking asking own) cube steps bound
+    → IsRefuted given asking cube steps bound
+refuted_wider given asking own cube steps bound =
+    refuted_goes given (same_asking asking own) asking cube cube steps bound (λ circuit _.
+    record { times = times_same circuit asking.admit own cube; pairs = λ variables clause is. is; keep = λ variables clause is. is })

@@ -153,7 +153,7 @@ some_fourth terms t admit moments e = ap (λ (x : Option Terms). version_by x ad
 
 -- where a part tells terms, so does the whole
 merged_fourth : (whole part : Question) → AreMerged whole.terms part.terms → version_of part ≡ Fourth → version_of whole ≡ Fourth
-merged_fourth whole part (inl none) e = absurd (no_fourth part.terms part.admit part.moments none e)
+merged_fourth whole part (inl none) e = absurd (no_fourth part.terms part.admit part.moments none.0 e)
 merged_fourth whole part (inr same) e =
     let t = told_fourth part.terms part.admit part.moments e in
     some_fourth whole.terms t.0 whole.admit whole.moments (sym same ∙ t.1)

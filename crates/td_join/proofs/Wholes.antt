@@ -7,7 +7,7 @@ use Rattle.td_domain.specs.Pairs.{Pair}
 use Rattle.td_certificate.specs.declared.tree.Node.{Node}
 use Rattle.td_certificate.specs.declared.certificate.Certificate.{Certificate}
 use Rattle.td_certificate.specs.declared.question.Version.TheVariants.{First}
-use Rattle.td_certificate.specs.Questions.{Question, version_of}
+use Rattle.td_certificate.specs.Questions.{Question, version_of, keep_by}
 use Rattle.td_gates.proofs.Places.{slice_get-Contains, slice_get-within}
 use Rattle.td_join.specs.Joining.{with_pins, AreJoined, AreMerged, HasTerms, IsClosed, IsAlike, IsJoined}
 use Rattle.td_domain.specs.Admits.{Admitted}
@@ -88,7 +88,7 @@ module _ (certificates : List Certificate) (gates : ℕ) (question : Question) (
   same_question this that admit moments terms = rw (admit, moments, terms) refl
 
   same_terms : (this that : Question) → version_of this ≡ First → AreMerged this.terms that.terms → this.terms ≡ that.terms
-  same_terms this that first (inl none) = no_terms this.terms this.admit this.moments first ∙ sym none
+  same_terms this that first (inl none) = no_terms this.terms this.admit this.moments first ∙ sym none.0
   same_terms this that first (inr same) = sym same
 
   pub false_none : All HasFit certificates → All (λ c. AreMerged question.terms c.question.terms) certificates → (reported : JoinFault ℕ) → IsFalseNoneIn certificates question reported → IsJoinFault certificates question.admit.pins reported
@@ -107,5 +107,7 @@ module _ (certificates : List Certificate) (gates : ℕ) (question : Question) (
             (same_terms question first_of.0.question h.all
             (All-contains (λ d. AreMerged question.terms d.question.terms) certificates first_of.0 merged (slice_get-Contains certificates 0 first_of.0 first_of.1)))) h.all;
         none = h.none;
-        refused = λ netlist. refused question c netlist h.all mine.held mine.flips (All-contains HasFit certificates c fit has) h.none;
+        refused = λ netlist. refused question c netlist h.all mine.held mine.flips
+            (ap keep_by (sym (same_terms question c.question h.all (All-contains (λ d. AreMerged question.terms d.question.terms) certificates c merged has))
+            ∙ no_terms question.terms question.admit question.moments h.all)) (All-contains HasFit certificates c fit has) h.none;
       })

@@ -13,7 +13,7 @@ use Rattle.td_certificate.specs.Questions.{inputs_of, version_of}
 use Rattle.td_certificate.specs.Accepts.{Accepts}
 use Rattle.td_join.specs.declared.fault.JoinFault.{JoinFault}
 use Rattle.td_join.specs.declared.fault.JoinFault.TheVariants as fault
-use Rattle.td_join.specs.Joining.{pins_of, with_pins, has_none, zeros, ones, AreKnownAt, IsJoined}
+use Rattle.td_join.specs.Joining.{pins_of, with_pins, has_none, zeros, ones, AreKnownAt, AreMerged, IsJoined}
 
 -- the fault with each certificate that it tells told by this in its place
 abbrev pub renamed : {A B : Type 0} → (A → B) → JoinFault A → JoinFault B
@@ -49,10 +49,10 @@ pub record IsUnlikeIn (certificates : List Certificate) (reported : JoinFault �
   pub other_at : slice_get certificates place ≡ Some other
   pub unlike : IsUnlike first other place reported
 
--- a certificate tells terms, and another one none of these
+-- two certificates tell terms that aren't merged
 abbrev pub IsOtherTerms : Certificate → ℕ → Certificate → ℕ → JoinFault ℕ → Type 0
 IsOtherTerms first at other place (fault.OtherTerms this that) =
-    (this ≡ at) × (that ≡ place) × (other.question.terms ≢ None) × (other.question.terms ≢ first.question.terms)
+    (this ≡ at) × (that ≡ place) × (¬ AreMerged first.question.terms other.question.terms)
 IsOtherTerms first at other place fault = ⊥
 
 pub record IsOtherTermsIn (certificates : List Certificate) (reported : JoinFault ℕ) : Type 0 where

@@ -11,7 +11,7 @@ use Rattle.td_certificate.specs.declared.tree.Node.{Node}
 use Rattle.td_certificate.specs.declared.tree.Node.TheVariants as node
 use Rattle.td_certificate.specs.declared.certificate.Certificate.{Certificate}
 use Rattle.td_certificate.specs.Cubes.{zero_side, one_side}
-use Rattle.td_certificate.specs.Questions.{Terms, Question}
+use Rattle.td_certificate.specs.Questions.{Terms, Question, keep_by}
 use Rattle.td_certificate.specs.Accepts.{Accepts}
 
 -- the cube that a certificate's admitted pairs lie in
@@ -79,9 +79,9 @@ pub record IsAlike (this that : Certificate) : Type 0 where
   pub flips : this.question.admit.flips ≡ that.question.admit.flips
   pub moments : this.question.moments ≡ that.question.moments
 
--- a certificate tells no terms, or those of the whole
+-- a certificate tells the terms of the whole, or none where these have no condition
 abbrev pub AreMerged : Option Terms → Option Terms → Type 0
-AreMerged whole part = (part ≡ None) ⊎ (part ≡ whole)
+AreMerged whole part = ((part ≡ None) × (keep_by whole ≡ [])) ⊎ (part ≡ whole)
 
 -- some certificate tells these terms
 pub record HasTerms (certificates : List Certificate) (terms : Option Terms) : Type 0 where

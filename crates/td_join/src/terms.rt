@@ -7,7 +7,8 @@ ghost use Rattle.td_join.specs.Faults.{IsOtherTerms, IsOtherTermsIn, IsJoinFault
 
 use crate::fault::JoinFault;
 use std::alloc::{AllocError, Global};
-use td_certificate::{Certificate, Terms};
+use td_certificate::{Certificate, Question, Terms};
+use td_refutation::NamedCondition;
 
 /// Whether both are the same numbers.
 fn are_same(this: &[u64], that: &[u64]) -> bool
@@ -27,11 +28,21 @@ fn name_same(this: &Terms, that: &Terms) -> bool
     }
 }
 
+/// Whether both are the same conditions.
+fn keep_same(this: &[NamedCondition], that: &[NamedCondition]) -> bool
+    ensures { IsTrue result ↔ (this.now ≡ that.now) }
+{
+    this == that
+}
+
 /// Whether both are the same terms.
 fn tell_same(this: &Terms, that: &Terms) -> bool
     ensures { IsTrue result ↔ (this.now ≡ that.now) }
 {
-    this.rise == that.rise && this.fall == that.fall && name_same(this, that)
+    this.rise == that.rise
+        && this.fall == that.fall
+        && name_same(this, that)
+        && keep_same(&this.keep, &that.keep)
 }
 
 /// The place of the first certificate that tells terms, and 0 where none does.
@@ -47,6 +58,17 @@ fn teller(certificates: &[Certificate]) -> usize
     0
 }
 
+/// Whether the second question tells the terms of the first, or none where these have no condition.
+fn are_merged(whole: &Question, part: &Question) -> bool
+    ensures { IsTrue result ↔ AreMerged whole.now.terms part.now.terms }
+{
+    match (whole.terms(), part.terms()) {
+        (_, None) => whole.keep().is_empty(),
+        (None, Some(_)) => false,
+        (Some(whole), Some(part)) => tell_same(whole, part),
+    }
+}
+
 /// Whether a certificate tells the terms of another one, or none. The error says that it doesn't.
 fn merge(
     first: &Certificate,
@@ -57,13 +79,7 @@ fn merge(
     ensures ok { OnOk result (AreMerged first.now.question.terms other.now.question.terms) }
     ensures fault { IfErr result (IsOtherTerms first.now at other.now place) }
 {
-    let Some(others) = other.question.terms() else {
-        return Ok(());
-    };
-    let Some(terms) = first.question.terms() else {
-        return Err(JoinFault::OtherTerms(at, place));
-    };
-    if tell_same(terms, others) {
+    if are_merged(&first.question, &other.question) {
         Ok(())
     } else {
         Err(JoinFault::OtherTerms(at, place))
@@ -98,6 +114,7 @@ fn copied(alloc: Global, terms: &Terms) -> Result<Terms, AllocError>
         rise: terms.rise,
         fall: terms.fall,
         outputs,
+        keep: Vec::from_slice(alloc, &terms.keep)?,
     })
 }
 

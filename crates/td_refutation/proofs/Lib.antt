@@ -1,3 +1,5 @@
+pub mod Asking
+pub mod Keeping
 pub mod Lists
 pub mod Steps
 mod States

@@ -4,8 +4,9 @@ use Rattle.std.specs.Prelude.{◌==◌, nat_lt, nat_le, ◌&&◌, slice_get, opt
 use Rattle.std.specs.List.{list_all}
 use Rattle.std.proofs.lemmas.Bool.{cases_lt}
 use Rattle.std.proofs.lemmas.List.{length-map}
-use Rattle.td_gates.proofs.Places.{some-same, slice_get-some}
-use Rattle.td_nets.specs.Netlist.{Named, Netlist}
+use Rattle.std.proofs.lemmas.List.Concat.{flat_map-cons}
+use Rattle.td_gates.proofs.Places.{some-same, slice_get-some, slice_get-map_some}
+use Rattle.td_nets.specs.Netlist.{Net, Named, Netlist}
 use Rattle.td_circuit.specs.Settings.{Setting}
 use Rattle.td_circuit.specs.Numbering.{NumberedGate, Numbered, nets, AreNumbersOf, IsNumbering}
 use Rattle.td_domain.specs.declared.cubes.Trit.{Trit}
@@ -31,9 +32,11 @@ use Rattle.td_refutation.specs.declared.kind.StepKind.{StepKind}
 use Rattle.td_refutation.specs.declared.kind.StepKind.TheVariants as kind
 use Rattle.td_refutation.specs.Doing.{State, first_state, IsGood, after, flaw_of, AreGood, state_to}
 use Rattle.td_refutation.specs.Lines.{Step, Deed, NoDeed, Having, Naming, Showing, Lowering, Retaking, literal_at, of_net, of_span, span_variable, flips_variable, variable_at, is_literal, naming, having, showing, lowering_at, retaking_at, shown_by_numbers, deed_of}
-use Rattle.td_refutation.specs.Refuting.{all_admitted}
+use Rattle.td_refutation.specs.declared.conditions.NamedCondition.{NamedCondition}
+use Rattle.td_refutation.specs.Asking.{Asking, condition_on, condition_in, conditions_in, asked_in}
 use Rattle.td_refutation.specs.Whole.{IsOfSetting, AreAllGood, last_state, latest_after, IsFirstBad}
 use Rattle.td_refutation.specs.Numberings.{IsSameQuestion, IsSameState, OneVerdict, LeafHasOneVerdict}
+use Rattle.td_refutation.proofs.Asking.{comes_from, net_is_at}
 use Rattle.td_refutation.proofs.States.{state_with}
 use Rattle.td_refutation.proofs.Renaming.{renamed_variable, renamed_gate, renamed_condition, renamed_asked, AreRenamed, IsRenaming}
 use Rattle.td_refutation.proofs.RenamedClauses.{found, has_same, settled_of_same, table_same, rests_same, gate_same, by_net_same}
@@ -399,25 +402,70 @@ one_verdict = record {
 
 -- ---- leaves
 
--- the admitted pairs, without a condition, are one question
-same_admitted : (this that : Numbered) (admit : Admitted) → IsSameQuestion this that (all_admitted admit) (all_admitted admit)
-same_admitted this that admit = record { admit = refl; count = refl; each = λ i a b at is. absurd (let none = at in cc) }
+conditions_renamed : (this that : Numbered) (r : ℕ → ℕ) → IsRenaming this that r → (keep : List NamedCondition)
+    → conditions_in that keep ≡ map (renamed_condition r) (conditions_in this keep)
+conditions_renamed this that r renaming [] = refl
+conditions_renamed this that r renaming (first ∷ keep) =
+    flat_map-cons (condition_in that) first keep
+    ∙ ap (λ o. condition_on first.form o ++ conditions_in that keep) (renaming.named first.net)
+    ∙ go (conditions_renamed this that r renaming keep) (net_named this first.net)
+    ∙ ap (map (renamed_condition r)) (sym (flat_map-cons (condition_in this) first keep))
+  where
+    go : conditions_in that keep ≡ map (renamed_condition r) (conditions_in this keep) → (o : Option ℕ)
+        → condition_on first.form (option_map r o) ++ conditions_in that keep
+        ≡ map (renamed_condition r) (condition_on first.form o ++ conditions_in this keep)
+    go same None = same
+    go same (Some net) = ap (λ (rest : List Condition). record { net = r net; form = first.form } ∷ rest) same
+
+-- the conditions of a circuit are on nets of it
+condition_net : (this : Numbered) → IsNumbering this → (keep : List NamedCondition) (i : ℕ) (c : Condition) → slice_get (conditions_in this keep) i ≡ Some c
+    → (net : Net) × (slice_get (nets this) c.net ≡ Some net)
+condition_net this numbering keep i c at =
+    let it = comes_from this keep i c at in
+    let net = net_is_at this numbering it.from.net c.net it.names in
+    (net.net, net.here)
+
+-- the same pairs, by the numbers of two circuits, are one question
+same_asked : (given : Setting) (this that : Numbered) → IsOfSetting given this → IsOfSetting given that → (asking : Asking)
+    → IsSameQuestion this that (asked_in this asking) (asked_in that asking)
+same_asked given this that of of' asking =
+    let netlist_is : that.netlist ≡ this.netlist = ap (λ (s : Setting). s.netlist) of'.is ∙ sym (ap (λ (s : Setting). s.netlist) of.is) in
+    let r : ℕ → ℕ = renumbered this that of.numbering of'.numbering netlist_is in
+    let renaming : IsRenaming this that r =
+    is_renaming this that of.numbering of'.numbering netlist_is (ap (λ (s : Setting). s.moments) of'.is ∙ sym (ap (λ (s : Setting). s.moments) of.is)) in
+    let same : conditions_in that asking.keep ≡ map (renamed_condition r) (conditions_in this asking.keep) =
+    conditions_renamed this that r renaming asking.keep in
+    record {
+      admit = refl;
+      count = ap length same ∙ length-map (conditions_in this asking.keep) (renamed_condition r);
+      each = λ i a b at is.
+          let there : slice_get (map (renamed_condition r) (conditions_in this asking.keep)) i ≡ Some (renamed_condition r a) =
+          slice_get-map_some (renamed_condition r) (conditions_in this asking.keep) i a at in
+          let b_is : b ≡ renamed_condition r a = some-same b (renamed_condition r a) (sym is ∙ ap (λ cs. slice_get cs i) same ∙ there) in
+          let net = condition_net this of.numbering asking.keep i a at in
+          record {
+            net = net.0;
+            here = net.1;
+            there = ap (λ (c : Condition). slice_get (nets that) c.net) b_is ∙ net_kept this that of.numbering of'.numbering netlist_is a.net net.0 net.1;
+            form = ap (λ (c : Condition). c.form) b_is;
+          };
+    }
 
 pub leaf_has_one_verdict : LeafHasOneVerdict
 leaf_has_one_verdict = record {
-  refuted_or_above = λ given admit cube steps bound whole refuted above.
-      let same = one_verdict.latest given refuted.circuit above.circuit (all_admitted admit) (all_admitted admit) cube steps refuted.of_setting above.of_setting
-      (same_admitted refuted.circuit above.circuit admit) whole refuted.good in
+  refuted_or_above = λ given asking cube steps bound whole refuted above.
+      let same = one_verdict.latest given refuted.circuit above.circuit (asked_in refuted.circuit asking) (asked_in above.circuit asking) cube steps
+      refuted.of_setting above.of_setting (same_asked given refuted.circuit above.circuit refuted.of_setting above.of_setting asking) whole refuted.good in
       let within = refuted.within in
       let over = above.above in
       omega (arith, same, within, over);
-  refuted_or_bad = λ given admit cube steps bound place flaw whole refuted bad.
-      one_verdict.bad given bad.circuit refuted.circuit (all_admitted admit) (all_admitted admit) cube steps place flaw bad.of_setting refuted.of_setting
-      (same_admitted bad.circuit refuted.circuit admit) whole bad.first refuted.good;
-  above_or_bad = λ given admit cube steps bound place flaw whole above bad.
-      one_verdict.bad given bad.circuit above.circuit (all_admitted admit) (all_admitted admit) cube steps place flaw bad.of_setting above.of_setting
-      (same_admitted bad.circuit above.circuit admit) whole bad.first above.good;
-  one_bad_step = λ given admit cube steps place place' flaw flaw' whole bad bad'.
-      one_verdict.first given bad.circuit bad'.circuit (all_admitted admit) (all_admitted admit) cube steps place place' flaw flaw' bad.of_setting bad'.of_setting
-      (same_admitted bad.circuit bad'.circuit admit) whole bad.first bad'.first;
+  refuted_or_bad = λ given asking cube steps bound place flaw whole refuted bad.
+      one_verdict.bad given bad.circuit refuted.circuit (asked_in bad.circuit asking) (asked_in refuted.circuit asking) cube steps place flaw bad.of_setting
+      refuted.of_setting (same_asked given bad.circuit refuted.circuit bad.of_setting refuted.of_setting asking) whole bad.first refuted.good;
+  above_or_bad = λ given asking cube steps bound place flaw whole above bad.
+      one_verdict.bad given bad.circuit above.circuit (asked_in bad.circuit asking) (asked_in above.circuit asking) cube steps place flaw bad.of_setting
+      above.of_setting (same_asked given bad.circuit above.circuit bad.of_setting above.of_setting asking) whole bad.first above.good;
+  one_bad_step = λ given asking cube steps place place' flaw flaw' whole bad bad'.
+      one_verdict.first given bad.circuit bad'.circuit (asked_in bad.circuit asking) (asked_in bad'.circuit asking) cube steps place place' flaw flaw'
+      bad.of_setting bad'.of_setting (same_asked given bad.circuit bad'.circuit bad.of_setting bad'.of_setting asking) whole bad.first bad'.first;
 }

@@ -4,7 +4,6 @@ use Rattle.std.proofs.Common.{◌≡◌, ℕ, ◌≤◌, true, false, List, [], 
 use Rattle.td_circuit.specs.Settings.{Setting}
 use Rattle.td_circuit.specs.Numbering.{Numbered}
 use Rattle.td_domain.specs.declared.cubes.Trit.{Trit}
-use Rattle.td_domain.specs.Admits.{Admitted}
 use Rattle.td_propagation.specs.declared.literal.Literal.{Literal}
 use Rattle.td_spans.specs.declared.reason.Reason.{Reason}
 use Rattle.td_spans.specs.declared.reason.Reason.TheVariants as reason
@@ -17,7 +16,7 @@ use Rattle.td_spans.specs.Pairs.{is_pairs_clause}
 use Rattle.td_spans.specs.Signals.{first_times}
 use Rattle.td_refutation.specs.Doing.{State, first_state, IsGood, after, AreGood, state_to}
 use Rattle.td_refutation.specs.Lines.{Step, Deed, NoDeed, Having, Naming, Showing, Lowering, Retaking, deed_of}
-use Rattle.td_refutation.specs.Refuting.{all_admitted}
+use Rattle.td_refutation.specs.Asking.{Asking, asked_in}
 use Rattle.td_refutation.specs.Whole.{AreAllGood, latest_after, IsOfSetting, IsRefuted}
 
 -- a question's first times are another's, and its clauses of pairs and of conditions are
@@ -61,15 +60,15 @@ module _ (circuit : Numbered) (one other : Asked) (cube cube' : List Trit) (goes
   pub latest_goes : (steps : List Step) → latest_after circuit one cube steps ≡ latest_after circuit other cube' steps
   latest_goes steps = ap (λ (s : State). latest_of (state_to circuit s steps).times circuit.outputs) first_same
 
--- what lines show of the admitted pairs of a cube they show of others
-pub refuted_goes : (given : Setting) (admit admit' : Admitted) (cube cube' : List Trit) (steps : List Step) (bound : ℕ)
-    → ((circuit : Numbered) → IsOfSetting given circuit → GoesOver circuit (all_admitted admit) (all_admitted admit') cube cube')
-    → IsRefuted given admit cube steps bound → IsRefuted given admit' cube' steps bound
-refuted_goes given admit admit' cube cube' steps bound goes h =
+-- what lines show of pairs of a cube they show of others
+pub refuted_goes : (given : Setting) (asking asking' : Asking) (cube cube' : List Trit) (steps : List Step) (bound : ℕ)
+    → ((circuit : Numbered) → IsOfSetting given circuit → GoesOver circuit (asked_in circuit asking) (asked_in circuit asking') cube cube')
+    → IsRefuted given asking cube steps bound → IsRefuted given asking' cube' steps bound
+refuted_goes given asking asking' cube cube' steps bound goes h =
     let over = goes h.circuit h.of_setting in
     record {
       circuit = h.circuit;
       of_setting = h.of_setting;
-      good = good_goes h.circuit (all_admitted admit) (all_admitted admit') cube cube' over steps h.good;
-      within = subst (λ (n : ℕ). n ≤ bound) (latest_goes h.circuit (all_admitted admit) (all_admitted admit') cube cube' over steps) h.within;
+      good = good_goes h.circuit (asked_in h.circuit asking) (asked_in h.circuit asking') cube cube' over steps h.good;
+      within = subst (λ (n : ℕ). n ≤ bound) (latest_goes h.circuit (asked_in h.circuit asking) (asked_in h.circuit asking') cube cube' over steps) h.within;
     }

@@ -3,6 +3,7 @@ use Rattle.std.proofs.Common.{◌≡◌, true, false, List, [], ◌∷◌, ◌++
 use Rattle.td_circuit.specs.Settings.{Setting}
 use Rattle.td_circuit.specs.Numbering.{Numbered, setting}
 use Rattle.td_domain.specs.declared.cubes.Trit.{Trit}
+use Rattle.td_domain.proofs.Changing.{vectors_in}
 use Rattle.td_propagation.specs.declared.literal.Literal.{Literal}
 use Rattle.td_spans.specs.declared.times.Times.{Times}
 use Rattle.td_spans.specs.declared.variable.Variable.{Variable}
@@ -13,8 +14,10 @@ use Rattle.td_spans.specs.Laws.{IsAsked}
 use Rattle.td_spans.proofs.Steps.{first_refutes, steps_refute, refuted_bounds}
 use Rattle.td_refutation.specs.Doing.{State, first_state, IsGood, after, AreGood, state_to}
 use Rattle.td_refutation.specs.Lines.{Step, Deed, NoDeed, Having, Naming, Showing, Lowering, Retaking, deed_of}
-use Rattle.td_refutation.specs.Refuting.{IsUpperBoundOf, all_admitted}
+use Rattle.td_refutation.specs.Asking.{asked_in}
+use Rattle.td_refutation.specs.Refuting.{IsUpperBoundOf}
 use Rattle.td_refutation.specs.Whole.{RefutedIsBounded}
+use Rattle.td_refutation.proofs.Asking.{kept_in}
 
 -- Before the first step the times are the first ones, and there are no clauses; always they are true
 -- of the runs.
@@ -66,9 +69,9 @@ module _ (circuit : Numbered) (asked : Asked) (cube : List Trit) (fits : IsAsked
       kept_to steps (after circuit state (deed_of circuit step.kind step.numbers)) good.1 (kept_after state (deed_of circuit step.kind step.numbers) kept good.0)
 
 pub refuted_is_bounded : RefutedIsBounded
-refuted_is_bounded given admit cube steps bound fit helds count refuted =
+refuted_is_bounded given asking cube steps bound fit helds count refuted =
     let circuit : Numbered = refuted.circuit in
-    let asked : Asked = all_admitted admit in
+    let asked : Asked = asked_in circuit asking in
     let same : setting circuit ≡ given = refuted.of_setting.is in
     let net_is : circuit.netlist ≡ given.netlist = ap (λ (s : Setting). s.netlist) same in
     let moments_are : circuit.moments ≡ given.moments = ap (λ (s : Setting). s.moments) same in
@@ -76,8 +79,9 @@ refuted_is_bounded given admit cube steps bound fit helds count refuted =
     record { numbering = refuted.of_setting.numbering; moments = rw (net_is, moments_are) fit; whole = rw net_is count; held = rw net_is helds } in
     let last : State = state_to circuit (first_state circuit asked cube) steps in
     let kept = kept_to circuit asked cube fits steps (first_state circuit asked cube) refuted.good (kept_first circuit asked cube fits) in
-    subst (λ (s : Setting). IsUpperBoundOf s admit cube bound) same
-    (λ pair delay admitted is_in is_delay.
+    subst (λ (s : Setting). IsUpperBoundOf s asking cube bound) same
+    (λ pair delay about is_in is_delay.
+    let long = vectors_in (length circuit.netlist.inputs) cube pair.first pair.second fits.whole is_in in
     let under = refuted_bounds circuit asked cube last.variables fits last.times last.clauses kept.refutes pair delay
-    (record { admitted = admitted; kept = λ before after_ one two i condition at. absurd (let none = at in cc) }) is_in is_delay in
+    (record { admitted = about.admitted; kept = kept_in circuit fits.numbering asking.keep pair long.0 long.1 about.kept }) is_in is_delay in
     omega (arith, under, refuted.within))

@@ -1,3 +1,4 @@
+pub mod Asking
 pub mod Lines
 pub mod Doing
 pub mod Lowers

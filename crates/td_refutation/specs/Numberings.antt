@@ -4,11 +4,11 @@ use Rattle.td_circuit.specs.Settings.{Setting}
 use Rattle.td_circuit.specs.Numbering.{Numbered, nets, AreNumbersOf}
 use Rattle.td_nets.specs.Netlist.{Net}
 use Rattle.td_domain.specs.declared.cubes.Trit.{Trit}
-use Rattle.td_domain.specs.Admits.{Admitted}
 use Rattle.td_spans.specs.declared.condition.Condition.{Condition}
 use Rattle.td_spans.specs.Conditions.{Asked}
 use Rattle.td_spans.specs.Lowering.{latest_of}
 use Rattle.td_refutation.specs.declared.flaw.Flaw.{Flaw}
+use Rattle.td_refutation.specs.Asking.{Asking}
 use Rattle.td_refutation.specs.Doing.{State}
 use Rattle.td_refutation.specs.Lines.{Step}
 use Rattle.td_refutation.specs.Whole.{IsOfSetting, AreAllGood, last_state, latest_after, IsFirstBad, IsRefuted, IsAboveBound, IsBadStep}
@@ -52,12 +52,12 @@ pub record OneVerdict : Type 0 where
 -- A leaf is refuted within its bound, or above it, or has a bad step, and no two of these; its bad
 -- step is one, with one flaw.
 pub record LeafHasOneVerdict : Type 0 where
-  pub refuted_or_above : (given : Setting) (admit : Admitted) (cube : List Trit) (steps : List Step) (bound : ℕ) → length cube ≡ 2 * length given.netlist.inputs
-      → IsRefuted given admit cube steps bound → IsAboveBound given admit cube steps bound → ⊥
-  pub refuted_or_bad : (given : Setting) (admit : Admitted) (cube : List Trit) (steps : List Step) (bound place : ℕ) (flaw : Flaw)
-      → length cube ≡ 2 * length given.netlist.inputs → IsRefuted given admit cube steps bound → IsBadStep given admit cube steps place flaw → ⊥
-  pub above_or_bad : (given : Setting) (admit : Admitted) (cube : List Trit) (steps : List Step) (bound place : ℕ) (flaw : Flaw)
-      → length cube ≡ 2 * length given.netlist.inputs → IsAboveBound given admit cube steps bound → IsBadStep given admit cube steps place flaw → ⊥
-  pub one_bad_step : (given : Setting) (admit : Admitted) (cube : List Trit) (steps : List Step) (place place' : ℕ) (flaw flaw' : Flaw)
-      → length cube ≡ 2 * length given.netlist.inputs → IsBadStep given admit cube steps place flaw → IsBadStep given admit cube steps place' flaw'
+  pub refuted_or_above : (given : Setting) (asking : Asking) (cube : List Trit) (steps : List Step) (bound : ℕ) → length cube ≡ 2 * length given.netlist.inputs
+      → IsRefuted given asking cube steps bound → IsAboveBound given asking cube steps bound → ⊥
+  pub refuted_or_bad : (given : Setting) (asking : Asking) (cube : List Trit) (steps : List Step) (bound place : ℕ) (flaw : Flaw)
+      → length cube ≡ 2 * length given.netlist.inputs → IsRefuted given asking cube steps bound → IsBadStep given asking cube steps place flaw → ⊥
+  pub above_or_bad : (given : Setting) (asking : Asking) (cube : List Trit) (steps : List Step) (bound place : ℕ) (flaw : Flaw)
+      → length cube ≡ 2 * length given.netlist.inputs → IsAboveBound given asking cube steps bound → IsBadStep given asking cube steps place flaw → ⊥
+  pub one_bad_step : (given : Setting) (asking : Asking) (cube : List Trit) (steps : List Step) (place place' : ℕ) (flaw flaw' : Flaw)
+      → length cube ≡ 2 * length given.netlist.inputs → IsBadStep given asking cube steps place flaw → IsBadStep given asking cube steps place' flaw'
       → (place ≡ place') × (flaw ≡ flaw')

@@ -3,7 +3,6 @@ use Rattle.std.specs.Prelude.{◌≡◌, ℕ, ◌*◌, ◌<◌, ◌≤◌, List,
 use Rattle.td_circuit.specs.Settings.{Setting, AreMoments}
 use Rattle.td_circuit.specs.Numbering.{Numbered, setting, IsNumbering}
 use Rattle.td_domain.specs.declared.cubes.Trit.{Trit}
-use Rattle.td_domain.specs.Admits.{Admitted}
 use Rattle.td_spans.specs.Conditions.{Asked}
 use Rattle.td_spans.specs.Lowering.{latest_of}
 use Rattle.td_refutation.specs.declared.flaw.Flaw.{Flaw}
@@ -11,7 +10,8 @@ use Rattle.td_refutation.specs.declared.whole.Step as code
 use Rattle.td_refutation.specs.declared.whole.Refusal as refusal
 use Rattle.td_refutation.specs.declared.whole.Refusal.TheVariants as refused
 use Rattle.td_refutation.specs.Doing.{State, IsGood, flaw_of, AreGood, state_to, first_state}
-use Rattle.td_refutation.specs.Refuting.{IsUpperBoundOf, all_admitted}
+use Rattle.td_refutation.specs.Asking.{Asking, asked_in}
+use Rattle.td_refutation.specs.Refuting.{IsUpperBoundOf}
 use Rattle.td_refutation.specs.Lines.{deed_of}
 pub use Rattle.td_refutation.specs.Lines.{Step}
 
@@ -37,11 +37,11 @@ pub record IsOfSetting (given : Setting) (circuit : Numbered) : Type 0 where
   pub is : setting circuit ≡ given
 
 -- the lines are good, and after them no output may change later than the bound
-pub record IsRefuted (given : Setting) (admit : Admitted) (cube : List Trit) (steps : List Step) (bound : ℕ) : Type 0 where
+pub record IsRefuted (given : Setting) (asking : Asking) (cube : List Trit) (steps : List Step) (bound : ℕ) : Type 0 where
   pub circuit : Numbered
   pub of_setting : IsOfSetting given circuit
-  pub good : AreAllGood circuit (all_admitted admit) cube steps
-  pub within : latest_after circuit (all_admitted admit) cube steps ≤ bound
+  pub good : AreAllGood circuit (asked_in circuit asking) cube steps
+  pub within : latest_after circuit (asked_in circuit asking) cube steps ≤ bound
 
 -- the line at this place isn't good after those before it, which are, for this reason
 pub record IsFirstBad (circuit : Numbered) (asked : Asked) (cube : List Trit) (steps : List Step) (place : ℕ) (flaw : Flaw) : Type 0 where
@@ -52,17 +52,17 @@ pub record IsFirstBad (circuit : Numbered) (asked : Asked) (cube : List Trit) (s
   pub why : flaw ≡ flaw_of (deed_of circuit step.kind step.numbers)
 
 -- the line at this place is the first that isn't good, for this reason
-pub record IsBadStep (given : Setting) (admit : Admitted) (cube : List Trit) (steps : List Step) (place : ℕ) (flaw : Flaw) : Type 0 where
+pub record IsBadStep (given : Setting) (asking : Asking) (cube : List Trit) (steps : List Step) (place : ℕ) (flaw : Flaw) : Type 0 where
   pub circuit : Numbered
   pub of_setting : IsOfSetting given circuit
-  pub first : IsFirstBad circuit (all_admitted admit) cube steps place flaw
+  pub first : IsFirstBad circuit (asked_in circuit asking) cube steps place flaw
 
 -- the lines are good, and after them an output may change later than the bound
-pub record IsAboveBound (given : Setting) (admit : Admitted) (cube : List Trit) (steps : List Step) (bound : ℕ) : Type 0 where
+pub record IsAboveBound (given : Setting) (asking : Asking) (cube : List Trit) (steps : List Step) (bound : ℕ) : Type 0 where
   pub circuit : Numbered
   pub of_setting : IsOfSetting given circuit
-  pub good : AreAllGood circuit (all_admitted admit) cube steps
-  pub above : bound < latest_after circuit (all_admitted admit) cube steps
+  pub good : AreAllGood circuit (asked_in circuit asking) cube steps
+  pub above : bound < latest_after circuit (asked_in circuit asking) cube steps
 
 -- What lines came to: all are good and lead to this state, or one is the first that isn't. Nothing is
 -- said where memory ran out.
@@ -71,13 +71,13 @@ AreDone circuit asked cube steps state (Ok unit) = AreAllGood circuit asked cube
 AreDone circuit asked cube steps state (Err refused.OutOfMemory) = Unit {0}
 AreDone circuit asked cube steps state (Err (refused.BadStep place flaw)) = IsFirstBad circuit asked cube steps place flaw
 
--- what lines show of the admitted pairs of a cube is true
+-- what lines show of the pairs of a cube that are asked about is true
 abbrev pub RefutedIsBounded : Type 0
-RefutedIsBounded = (given : Setting) (admit : Admitted) (cube : List Trit) (steps : List Step) (bound : ℕ) → AreMoments given.netlist given.moments
-    → length admit.held ≡ length given.netlist.inputs → length cube ≡ 2 * length given.netlist.inputs → IsRefuted given admit cube steps bound
-    → IsUpperBoundOf given admit cube bound
+RefutedIsBounded = (given : Setting) (asking : Asking) (cube : List Trit) (steps : List Step) (bound : ℕ) → AreMoments given.netlist given.moments
+    → length asking.admit.held ≡ length given.netlist.inputs → length cube ≡ 2 * length given.netlist.inputs → IsRefuted given asking cube steps bound
+    → IsUpperBoundOf given asking cube bound
 
 -- what a refusal says
-abbrev pub IsRefusal : Setting → Admitted → List Trit → List Step → refusal.Refusal → Type 0
-IsRefusal given admit cube steps refused.OutOfMemory = Unit {0}
-IsRefusal given admit cube steps (refused.BadStep place flaw) = IsBadStep given admit cube steps place flaw
+abbrev pub IsRefusal : Setting → Asking → List Trit → List Step → refusal.Refusal → Type 0
+IsRefusal given asking cube steps refused.OutOfMemory = Unit {0}
+IsRefusal given asking cube steps (refused.BadStep place flaw) = IsBadStep given asking cube steps place flaw

@@ -4,7 +4,7 @@ ghost use Rattle.td_refutation.specs.Whole.{RefutedIsBounded};
 ghost use Rattle.td_refutation.specs.Numberings.{OneVerdict, LeafHasOneVerdict};
 
 /// Where lines are good in the refutation of a cube, and after them no output may change later than
-/// a bound, no admitted pair of the cube has a greater delay.
+/// a bound, no pair of the cube that is asked about has a greater delay.
 pub fn refuted_is_bounded()
     ensures { RefutedIsBounded }
 {}

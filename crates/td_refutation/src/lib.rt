@@ -3,14 +3,18 @@
 //! clauses on spans of places at which nets keep a level.
 #![tactic(auto)]
 
+mod conditions;
 mod flaw;
 mod kind;
 pub mod laws;
 mod lines;
 mod refutation;
+mod settled;
 mod whole;
 
+pub use conditions::{NamedCondition, question_on};
 pub use flaw::{Flaw, StepError};
 pub use kind::StepKind;
 pub use refutation::Refutation;
+pub use settled::{is_broken, is_kept};
 pub use whole::{Refusal, Step, refuted};

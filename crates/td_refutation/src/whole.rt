@@ -2,10 +2,12 @@
 
 ghost use Rattle.std.specs.Prelude.{◌≡◌, ◌*◌, length, map, IfOk, IfErr};
 ghost use Rattle.td_circuit.specs.Numbering.{setting};
+ghost use Rattle.td_refutation.specs.Asking.{all_admitted};
 ghost use Rattle.td_refutation.specs.Refuting.{IsUpperBoundOf};
 ghost use Rattle.td_refutation.specs.Doing.{state_of, first_state};
 ghost use Rattle.td_refutation.specs.Whole.{step_of, AreDone, IsRefuted, IsRefusal};
 
+use crate::conditions::question_on;
 use crate::flaw::{Flaw, StepError};
 use crate::kind::StepKind;
 use crate::refutation::Refutation;
@@ -71,12 +73,12 @@ fn judged(
 ) -> Result<u64, Refusal>
     requires held { length admit.now.held ≡ length circuit.now.netlist.inputs }
     requires cube { length cube.now ≡ 2 * length circuit.now.netlist.inputs }
-    ensures shown { IfOk result (IsRefuted (setting circuit.now) admit.now cube.now (map step_of steps.now)) }
-    ensures refused { IfErr result (IsRefusal (setting circuit.now) admit.now cube.now (map step_of steps.now)) }
+    ensures shown { IfOk result (IsRefuted (setting circuit.now) (all_admitted admit.now) cube.now (map step_of steps.now)) }
+    ensures refused { IfErr result (IsRefusal (setting circuit.now) (all_admitted admit.now) cube.now (map step_of steps.now)) }
 {
     // For the prover: this call says that the gates are in order.
     let _gates = circuit.gates();
-    let question = Question::new(admit.copy(alloc)?, Vec::new(alloc));
+    let question = question_on(alloc, circuit, admit, &[])?;
     let mut refutation = Refutation::new(alloc, circuit, &question, cube)?;
     do_steps(alloc, circuit, &question, cube, &mut refutation, steps)?;
     Ok(refutation.bound(circuit))
@@ -93,9 +95,9 @@ pub fn refuted(
 ) -> Result<u64, Refusal>
     requires held { length admit.now.held ≡ length circuit.now.netlist.inputs }
     requires cube { length cube.now ≡ 2 * length circuit.now.netlist.inputs }
-    ensures shown { IfOk result (IsRefuted (setting circuit.now) admit.now cube.now (map step_of steps.now)) }
-    ensures bound { IfOk result (IsUpperBoundOf (setting circuit.now) admit.now cube.now) }
-    ensures refused { IfErr result (IsRefusal (setting circuit.now) admit.now cube.now (map step_of steps.now)) }
+    ensures shown { IfOk result (IsRefuted (setting circuit.now) (all_admitted admit.now) cube.now (map step_of steps.now)) }
+    ensures bound { IfOk result (IsUpperBoundOf (setting circuit.now) (all_admitted admit.now) cube.now) }
+    ensures refused { IfErr result (IsRefusal (setting circuit.now) (all_admitted admit.now) cube.now (map step_of steps.now)) }
 {
     // For the prover: this call says that each input has a moment.
     let _moments = circuit.moments();

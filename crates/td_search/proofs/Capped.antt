@@ -15,6 +15,7 @@ use Rattle.td_spans.specs.Changing.{sum_of, fixed_flip, fixed_at, is_so, is_stil
 use Rattle.td_spans.specs.Clauses.{level_is}
 use Rattle.td_spans.specs.Pairs.{flips_of, flips_or, first_flips, reaches, held_differs, is_empty, narrowed, is_pairs_clause}
 use Rattle.td_spans.specs.Signals.{signal_by, times_from, input_at, inputs_to, gates_from, first_times}
+use Rattle.td_refutation.specs.Asking.{Asking}
 use Rattle.td_refutation.specs.Lines.{Step}
 use Rattle.td_refutation.specs.Whole.{IsRefuted}
 use Rattle.td_refutation.proofs.Questions.{refuted_goes}
@@ -22,6 +23,10 @@ use Rattle.td_refutation.proofs.Questions.{refuted_goes}
 -- no more inputs differ than there are
 abbrev pub capped : Admitted → Admitted
 capped admit = record admit { flips = min admit.flips (length admit.held) }
+
+-- the same conditions on pairs with no more flips than there are inputs
+abbrev pub capped_asking : Asking → Asking
+capped_asking asking = record { admit = capped asking.admit; keep = asking.keep }
 
 -- ---- still inputs
 
@@ -134,12 +139,12 @@ module _ (circuit : Numbered) (admit : Admitted) (cube : List Trit) (helds : len
   times_same : first_times circuit (capped admit) cube ≡ first_times circuit admit cube
   times_same = ap (λ (signals : List Signal). map times_from (gates_from signals circuit.gates)) (inputs_same count (omega arith))
 
-pub refuted_fewer : (given : Setting) (admit : Admitted) (cube : List Trit) (steps : List Step) (bound : ℕ) → length admit.held ≡ length given.netlist.inputs
-    → IsRefuted given admit cube steps bound → IsRefuted given (capped admit) cube steps bound
-refuted_fewer given admit cube steps bound helds =
-    refuted_goes given admit (capped admit) cube cube steps bound (λ circuit of.
+pub refuted_fewer : (given : Setting) (asking : Asking) (cube : List Trit) (steps : List Step) (bound : ℕ) → length asking.admit.held ≡ length given.netlist.inputs
+    → IsRefuted given asking cube steps bound → IsRefuted given (capped_asking asking) cube steps bound
+refuted_fewer given asking cube steps bound helds =
+    refuted_goes given asking (capped_asking asking) cube cube steps bound (λ circuit of.
     record {
-      times = sym (times_same circuit admit cube (helds ∙ ap (λ (s : Setting). length s.netlist.inputs) (sym of.is)));
-      pairs = λ variables clause is. pairs_less (length circuit.netlist.inputs) admit cube variables clause is;
+      times = sym (times_same circuit asking.admit cube (helds ∙ ap (λ (s : Setting). length s.netlist.inputs) (sym of.is)));
+      pairs = λ variables clause is. pairs_less (length circuit.netlist.inputs) asking.admit cube variables clause is;
       keep = λ variables clause is. is;
     })

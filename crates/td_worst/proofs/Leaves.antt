@@ -1,5 +1,5 @@
 -- A tree of one leaf, which steps refute.
-use Rattle.std.proofs.Common.{◌≡◌, ◌∙◌, ℕ, ◌<◌, ◌≤◌, ◌^◌, Bool, true, List, [], ◌∷◌, length, refl, sym, ap, subst, arith}
+use Rattle.std.proofs.Common.{◌≡◌, ◌∙◌, ℕ, ◌+◌, ◌<◌, ◌≤◌, ◌^◌, Bool, true, List, [], ◌∷◌, length, refl, sym, ap, subst, arith}
 use Rattle.std.proofs.lemmas.List.Elements.{recursion_from_All}
 use Rattle.std.specs.List.{AllByRecursion}
 use Rattle.td_domain.specs.Pairs.{Pair}
@@ -9,7 +9,10 @@ use Rattle.td_lead.specs.Timed.{IsTimed}
 use Rattle.td_refutation.specs.Whole.{IsRefuted}
 use Rattle.td_certificate.specs.declared.tree.Node.{Node}
 use Rattle.td_certificate.specs.declared.tree.Node.TheVariants.{Refuted}
-use Rattle.td_certificate.specs.Accepts.{IsGood}
+use Rattle.td_refutation.specs.declared.conditions.NamedCondition.{NamedCondition}
+use Rattle.td_refutation.specs.Asking.{all_admitted, IsKept}
+use Rattle.td_refutation.proofs.Asking.{nothing_kept}
+use Rattle.td_certificate.specs.Accepts.{IsGood, are_fit}
 use Rattle.td_certificate.specs.Spelling.{HasSpelling, IsNode, version_in}
 use Rattle.std.specs.Prelude.{Option}
 use Rattle.td_certificate.specs.Questions.{Terms}
@@ -20,7 +23,7 @@ use Rattle.td_certificate.specs.Walks.{lines_from}
 use Rattle.td_certificate.proofs.Lengths.{refuted_texts_fit}
 use Rattle.td_refute.specs.declared.refuting.Refuted as found
 use Rattle.td_refute.specs.Answers.{IsShown}
-use Rattle.td_search.proofs.Capped.{capped, refuted_fewer}
+use Rattle.td_search.proofs.Capped.{capped, capped_asking, refuted_fewer}
 use Rattle.td_search.specs.declared.answers.Answer.TheVariants as answer
 use Rattle.td_search.specs.Problems.{Problem}
 use Rattle.td_search.specs.Answers.{question_by, certificate_by, IsExact}
@@ -49,22 +52,28 @@ module _ (asked : Problem) (budget : ℕ) (some : 0 < budget) (sizes : IsSpellab
     (timed : IsTimed asked.setting asked.admit (record { pair = pair; time = time }))
     (refuted : found.Refuted) (shown : IsShown asked.setting asked.admit refuted) (within : refuted.bound ≤ time)
     (tree : List Node) (leaf : IsLeafOf refuted tree) where
-  steps_shown : IsRefuted asked.setting (capped asked.admit) asked.admit.pins (leaf_of refuted).steps refuted.bound
-  steps_shown = refuted_fewer asked.setting asked.admit asked.admit.pins (leaf_of refuted).steps refuted.bound sizes.held shown.steps
+  steps_shown : IsRefuted asked.setting (capped_asking (all_admitted asked.admit)) asked.admit.pins (leaf_of refuted).steps refuted.bound
+  steps_shown = refuted_fewer asked.setting (all_admitted asked.admit) asked.admit.pins (leaf_of refuted).steps refuted.bound sizes.held shown.steps
 
-  good : AllByRecursion (IsGood asked.setting (capped asked.admit) time) (lines_from (asked.admit.pins ∷ []) (Refuted (leaf_of refuted) ∷ []))
+  good : AllByRecursion (IsGood asked.setting (capped_asking (all_admitted asked.admit)) time) (lines_from (asked.admit.pins ∷ []) (Refuted (leaf_of refuted) ∷ []))
   good = (record { splits = tt; one_pair = tt; of_cube = steps_shown; within = within }, tt)
 
   is_exact : IsExact asked budget time pair tree
   is_exact = record {
     reached = (timed.admitted, timed.delay);
     greatest = λ other delay admitted is. omega (arith, shown.bound other delay admitted is, within);
-    accepted = record {
-      size = record { inputs = sym sizes.held; gates = refl };
-      admitted = cap asked.admit pair long.0 timed.admitted;
+    accepted = λ terms bare. record {
+      size = record { inputs = sym sizes.held; gates = refl; fit = ap (are_fit (2 + length asked.admit.held + length asked.setting.netlist.gates)) bare };
+      admitted = record {
+        admitted = cap asked.admit pair long.0 timed.admitted;
+        kept = subst (λ (keep : List NamedCondition). IsKept asked.setting.netlist keep pair) (sym bare) (nothing_kept asked.setting.netlist pair);
+      };
       reached = timed.delay;
       tree = leaf_tree refuted tree leaf.is;
-      good = subst (λ (nodes : List Node). AllByRecursion (IsGood asked.setting (capped asked.admit) time) (lines_from (asked.admit.pins ∷ []) nodes)) (sym leaf.is) good;
+      good = subst (λ (keep : List NamedCondition). AllByRecursion (IsGood asked.setting (record { admit = capped asked.admit; keep = keep }) time)
+          (lines_from (asked.admit.pins ∷ []) tree)) (sym bare)
+          (subst (λ (nodes : List Node). AllByRecursion (IsGood asked.setting (capped_asking (all_admitted asked.admit)) time) (lines_from (asked.admit.pins ∷ []) nodes))
+          (sym leaf.is) good);
     };
     within = omega (arith, ap length leaf.is, some);
     small = small;

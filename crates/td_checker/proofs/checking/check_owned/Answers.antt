@@ -1,4 +1,5 @@
 use Rattle.std.proofs.lemmas.Result.{err_from_is_err_and}
+use Rattle.td_checker.specs.Checks.{told_by}
 use Rattle.td_checker.proofs.Texts.{tells_truth, source_fault, certificate_fault, have_verdict}
 use Rattle.td_checker.proofs.checking.check_owned.Goals as goal
 
@@ -17,7 +18,7 @@ returns-in_err-spelled-clause-fault c =
 pub returns-clause-truth : goal.returns-clause-truth
 returns-clause-truth c = λ accepted.
     tells_truth c.args.netlist.now c.args.reading.now c.args.certificate.items c.in_ok-asked.asked.circuit.netlist c.in_ok-spelled.spelled
-    c.in_ok-verdict.verdict _ c.in_ok-asked.ensures.circuit c.in_ok-asked.ensures.formed c.in_ok-spelled.ensures.found
+    c.in_ok-verdict.verdict (told_by c.args.reading.now c.in_ok-asked.asked.output) c.in_ok-asked.ensures.circuit c.in_ok-asked.ensures.formed c.in_ok-spelled.ensures.found
     c.in_ok-verdict.ensures accepted
 
 pub returns-clause-reported : goal.returns-clause-reported
