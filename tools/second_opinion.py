@@ -47,8 +47,8 @@ Line = namedtuple("Line", "letter domain number")
 # Such a line as it mostly stands in a text, and what it may not have.
 INNER = re.compile(rf"[{VARIABLES}{STEPS}][0-9 ]*\n")
 ODD = re.compile(r"\A.[0-9]|  | \n| 0[0-9]|[0-9]{19}")
-# `asked` are the lines of the question as they stand in the text, and `pair` is a cube. `terms` are
-# None where the text tells none.
+# `asked` are the lines of the question that `check` tells, as they stand in the text, and `pair` is
+# a cube. `terms` are None where the text tells none.
 Certificate = namedtuple("Certificate", "inputs gates terms question asked time high pair tree")
 
 
@@ -228,6 +228,12 @@ def tree_in(text, version):
     return lines
 
 
+def is_plain(line, inputs):
+    """Whether a line of a question of version 4 says nothing but what stands by default."""
+    plain = rf"default 1 1|output all|(first|second|hold) (\.+|none)|flips {inputs}|keep none"
+    return re.fullmatch(rf"{plain}|at (none|0( 0)*)", line.rstrip("\n")) is not None
+
+
 def read_certificate(text):
     """The certificate that the bytes spell; Refusal where they spell none."""
     text = Text(text.decode("latin-1"))
@@ -242,6 +248,8 @@ def read_certificate(text):
     if version == 4:
         question = question._replace(keep=conditions_in(text))
     asked = text.text[begin : text.place]
+    if version == 4:
+        asked = "".join(it for it in asked.splitlines(True) if not is_plain(it, inputs))
     time = text.number("time ", "\n")
     high = text.number("high ", "\n") if version == 4 else time
     pair = woven(*(levels_of(text.symbols(front, "01", inputs)) for front in ("from ", "to ")))
