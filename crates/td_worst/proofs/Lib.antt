@@ -1,3 +1,4 @@
 pub mod Outcomes
 mod Leaves
+mod EdgeLeaves
 mod Standings
