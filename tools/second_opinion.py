@@ -47,8 +47,8 @@ Line = namedtuple("Line", "letter domain number")
 # Such a line as it mostly stands in a text, and what it may not have.
 INNER = re.compile(rf"[{VARIABLES}{STEPS}][0-9 ]*\n")
 ODD = re.compile(r"\A.[0-9]|  | \n| 0[0-9]|[0-9]{19}")
-# `asked` are the lines of the question that `check` tells, as they stand in the text, and `pair` is
-# a cube. `terms` are None where the text tells none.
+# `asked` are the lines of the question as they stand in the text, and `pair` is a cube. `terms` are
+# None where the text tells none.
 Certificate = namedtuple("Certificate", "inputs gates terms question asked time high pair tree")
 
 
@@ -228,12 +228,6 @@ def tree_in(text, version):
     return lines
 
 
-def is_plain(line, inputs):
-    """Whether a line of a question of version 4 says nothing but what stands by default."""
-    plain = rf"default 1 1|output all|(first|second|hold) (\.+|none)|flips {inputs}|keep none"
-    return re.fullmatch(rf"{plain}|at (none|0( 0)*)", line.rstrip("\n")) is not None
-
-
 def read_certificate(text):
     """The certificate that the bytes spell; Refusal where they spell none."""
     text = Text(text.decode("latin-1"))
@@ -248,8 +242,6 @@ def read_certificate(text):
     if version == 4:
         question = question._replace(keep=conditions_in(text))
     asked = text.text[begin : text.place]
-    if version == 4:
-        asked = "".join(it for it in asked.splitlines(True) if not is_plain(it, inputs))
     time = text.number("time ", "\n")
     high = text.number("high ", "\n") if version == 4 else time
     pair = woven(*(levels_of(text.symbols(front, "01", inputs)) for front in ("from ", "to ")))
@@ -396,6 +388,15 @@ def told(work):
         return "", f"tdelay: {message}\n", status
 
 
+def told_lines(certificate):
+    """The lines of the question that `check` prints: of version 4 those that aren't plain."""
+    if certificate.terms is None:
+        return certificate.asked
+    plain = rf"default 1 1|output all|flips {certificate.inputs}|at (none|0( 0)*)|keep none"
+    plain = re.compile(rf"({plain}|(first|second|hold) (\.+|none))\n")
+    return "".join(it for it in certificate.asked.splitlines(True) if not plain.fullmatch(it))
+
+
 def check(circuit, defaults, output, text):
     """`check` of a certificate's text, of all outputs or the one of a name."""
     outputs = None
@@ -409,7 +410,7 @@ def check(circuit, defaults, output, text):
     if found == Verdict.Accepted:
         time, high = certificate.time, certificate.high
         claim = f"accepted {time}" if time == high else f"accepted between {time} {high}"
-        return report([claim]) + certificate.asked, "", 0
+        return report([claim]) + told_lines(certificate), "", 0
     place = f" line {line}" if line else ""
     return report([f"refused {found.value} {found.name}{place}"]), "", 4
 

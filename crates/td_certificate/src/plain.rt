@@ -7,7 +7,9 @@ ghost use Rattle.td_certificate.specs.Plain.{has_level, told_line, reported_text
 ghost use Rattle.td_certificate.specs.Text.{row, trit, first_trits, second_trits};
 
 use crate::question::{Question, Terms, Version, holds_none, is_at_once};
-use crate::writing::{push_default, push_holds, push_keep, push_listed, push_outputs, push_question, push_trits};
+use crate::writing::{
+    push_default, push_holds, push_keep, push_listed, push_outputs, push_question, push_trits,
+};
 use std::alloc::{AllocError, Global};
 use td_domain::Cube;
 

@@ -74,9 +74,13 @@ module _ (asked : Problem) (budget : ℕ) (some : 0 < budget) (sizes : IsSpellab
     high = one_moment (version_in (certificate_by terms asked time pair tree)) time time refl (omega (arith, small));
     first = long.0;
     second = long.1;
-    nodes = subst (λ (nodes : List Node). AllByRecursion (IsNode (version_in (certificate_by terms asked time pair tree))) nodes) (sym leaf)
-        ((omega (arith, within, small),
-          λ other. sym (ap has_edges leaf) ∙ no_edges terms tree (question_by terms asked).admit (question_by terms asked).moments can other), tt);
+    nodes = subst (λ (nodes : List Node). AllByRecursion (IsNode (version_in (certificate_by terms asked time pair tree))) nodes) (sym leaf) (
+      (
+        omega (arith, within, small),
+        λ other. sym (ap has_edges leaf) ∙ no_edges terms tree (question_by terms asked).admit (question_by terms asked).moments can other,
+      ),
+      tt,
+    );
     tree = is_whole;
   }
 
