@@ -1,6 +1,6 @@
--- Which lines of a question are plain. All are where the question is about all pairs and all outputs,
+-- Which lines of a question say more than the plain one. None does where the question is about all pairs and all outputs,
 -- gates that state no delay have 1 and 1, and all inputs change at moment 0.
-use Rattle.std.specs.Prelude.{ℕ, Bool, true, false, List, [], ◌∷◌, ◌==◌, ◌&&◌, ◌||◌, not, is_none, if◌then◌else◌}
+use Rattle.std.specs.Prelude.{ℕ, Bool, true, false, List, [], ◌∷◌, ◌==◌, ◌&&◌, ◌||◌, not, is_some, if◌then◌else◌}
 use Rattle.std.specs.List.{flat_map, list_any}
 use Rattle.td_refutation.specs.declared.conditions.NamedCondition.{NamedCondition}
 use Rattle.td_certificate.specs.declared.question.Version.{Version}
@@ -17,19 +17,20 @@ abbrev pub keeps_none : List NamedCondition → Bool
 keeps_none [] = true
 keeps_none (condition ∷ keep) = false
 
-abbrev pub is_plain : Question → Field → Bool
-is_plain question DefaultField = (terms_of question).default.rise == 1 && (terms_of question).default.fall == 1
-is_plain question OutputField = is_none (terms_of question).outputs
-is_plain question FirstField = not (has_level (row trit (first_trits question.admit.pins)))
-is_plain question SecondField = not (has_level (row trit (second_trits question.admit.pins)))
-is_plain question HoldField = holds_none question.admit.held
-is_plain question FlipsField = question.admit.flips == inputs_of question
-is_plain question AtField = is_at_once question.moments
-is_plain question KeepField = keeps_none (terms_of question).keep
+-- whether a line says something else than the plain one
+abbrev pub says_more : Question → Field → Bool
+says_more question DefaultField = not ((terms_of question).default.rise == 1 && (terms_of question).default.fall == 1)
+says_more question OutputField = is_some (terms_of question).outputs
+says_more question FirstField = has_level (row trit (first_trits question.admit.pins))
+says_more question SecondField = has_level (row trit (second_trits question.admit.pins))
+says_more question HoldField = not (holds_none question.admit.held)
+says_more question FlipsField = not (question.admit.flips == inputs_of question)
+says_more question AtField = not (is_at_once question.moments)
+says_more question KeepField = not (keeps_none (terms_of question).keep)
 
 -- a line, unless it is plain
 abbrev pub told_line : Question → Field → List ℕ
-told_line question field = if is_plain question field then [] else ended (field_line question field)
+told_line question field = if says_more question field then ended (field_line question field) else []
 
 -- The lines of a question that a report tells: in the fourth version those that aren't plain.
 abbrev pub reported_text : Version → Question → List ℕ

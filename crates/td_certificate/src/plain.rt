@@ -1,6 +1,6 @@
 //! What of a question isn't plain.
 
-ghost use Rattle.std.specs.Prelude.{◌≡◌, ◌++◌, ◌==◌, ◌&&◌, [], if◌then◌else◌, is_none, OnOk, string_bytes};
+ghost use Rattle.std.specs.Prelude.{◌≡◌, ◌++◌, ◌==◌, ◌&&◌, [], if◌then◌else◌, is_some, not, OnOk, string_bytes};
 ghost use Rattle.td_certificate.specs.Questions.{holds_none, is_at_once, inputs_of};
 ghost use Rattle.td_certificate.specs.Spelling.{DefaultField, OutputField, HoldField, FlipsField, AtField, KeepField, default_line, output_line, ended};
 ghost use Rattle.td_certificate.specs.Plain.{has_level, told_line, reported_text};
@@ -11,7 +11,6 @@ use crate::writing::{
     push_default, push_holds, push_keep, push_listed, push_outputs, push_question, push_trits,
 };
 use std::alloc::{AllocError, Global};
-use td_domain::Cube;
 
 /// Whether a row of trits has a level.
 fn has_level(row: &str) -> bool
@@ -23,7 +22,7 @@ fn has_level(row: &str) -> bool
 /// Puts the line `default` at the end, if it isn't plain.
 fn tell_default(text: &mut String, terms: &Terms) -> Result<(), AllocError>
     ensures { OnOk result (string_bytes text.new ≡ string_bytes text.old ++
-        (if terms.now.default.rise == 1 && terms.now.default.fall == 1 then [] else ended (default_line terms.now))) }
+        (if not (terms.now.default.rise == 1 && terms.now.default.fall == 1) then ended (default_line terms.now) else [])) }
 {
     if terms.rise == 1 && terms.fall == 1 {
         return Ok(());
@@ -33,7 +32,7 @@ fn tell_default(text: &mut String, terms: &Terms) -> Result<(), AllocError>
 
 /// Puts the line `output` at the end, if it isn't plain.
 fn tell_outputs(text: &mut String, terms: &Terms) -> Result<(), AllocError>
-    ensures { OnOk result (string_bytes text.new ≡ string_bytes text.old ++ (if is_none terms.now.outputs then [] else ended (output_line terms.now))) }
+    ensures { OnOk result (string_bytes text.new ≡ string_bytes text.old ++ (if is_some terms.now.outputs then ended (output_line terms.now) else [])) }
 {
     if terms.outputs.is_none() {
         return Ok(());
@@ -59,15 +58,15 @@ fn tell_pins(
     alloc: Global,
     text: &mut String,
     word: &str,
-    pins: &Cube,
+    question: &Question,
     second: bool,
 ) -> Result<(), AllocError>
     ensures { OnOk result (string_bytes text.new ≡ string_bytes text.old ++
-        (if has_level (row trit (if second then second_trits pins.now else first_trits pins.now))
-        then ended (word.now ++ row trit (if second then second_trits pins.now else first_trits pins.now)) else [])) }
+        (if has_level (row trit (if second then second_trits question.now.admit.pins else first_trits question.now.admit.pins))
+        then ended (word.now ++ row trit (if second then second_trits question.now.admit.pins else first_trits question.now.admit.pins)) else [])) }
 {
     let mut row = String::new(alloc);
-    push_trits(&mut row, pins, second)?;
+    push_trits(&mut row, question.admit().pins(), second)?;
     if !has_level(&row) {
         return Ok(());
     }
@@ -124,14 +123,14 @@ fn tell_keep(text: &mut String, question: &Question) -> Result<(), AllocError>
 fn tell_lines(alloc: Global, text: &mut String, question: &Question) -> Result<(), AllocError>
     ensures { OnOk result (string_bytes text.new ≡ string_bytes text.old ++ reported_text Version.Fourth question.now) }
 {
-    let pins = question.admit().pins();
     tell_terms(text, question)?;
-    tell_pins(alloc, text, "first ", pins, false)?;
-    tell_pins(alloc, text, "second ", pins, true)?;
+    tell_pins(alloc, text, "first ", question, false)?;
+    tell_pins(alloc, text, "second ", question, true)?;
     tell_held(text, question)?;
     tell_flips(text, question)?;
     tell_moments(text, question)?;
-    tell_keep(text, question)
+    tell_keep(text, question)?;
+    Ok(())
 }
 
 /// Puts the lines of a question at the end that a report tells, as they stand in a certificate's

@@ -1,4 +1,5 @@
 pub mod Outcomes
 mod Leaves
 mod EdgeLeaves
+mod Edged
 mod Standings
