@@ -537,17 +537,17 @@ Each verdict but for `Accepted`.
   [4]
   $ bash hint.sh inverter.v 'tdelay-cert 1/circuit 2 1/time 3/from 00/to 11/b a 3/'
   refused 7 OtherCircuit
-  c: it is of a circuit with another number of inputs or gates
+  c: its numbers of inputs and gates, or its conditions, don't fit the circuit
     help: give the netlist that it was made for; `info` counts inputs and gates
   [4]
   $ bash hint.sh hidden.v 'tdelay-cert 2/circuit 2 4/first ../second ../hold ../flips 1/time 5/from 00/to 11/s 0/s 1/b a 3/s 2/s 3/b a 0/none/b a 5/b a 5/'
   refused 8 PairNotAdmitted
-  c: its pair isn't one that its lines first, second, hold and flips admit
+  c: its pair isn't one that its lines first, second, hold, flips and keep admit
     help: the certificate is wrong: search again
   [4]
   $ bash hint.sh hidden.v 'tdelay-cert 2/circuit 2 4/first ../second ../hold ../flips 1/time 5/from 01/to 11/s 0/s 1/none/s 2/s 3/b a 0/none/b a 5/b a 5/'
   refused 9 LeafNotEmpty line 12
-  c:12: a leaf claims that no admitted pair lies in its cube, but one does
+  c:12: a leaf claims that no admitted pair lies in its cube, but one may
     help: the certificate is wrong: search again
   [4]
 

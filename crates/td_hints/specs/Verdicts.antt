@@ -18,9 +18,9 @@ sentence (verdict.LeafBound one) = codes "a leaf's number is less than the bound
 sentence (verdict.LeafAboveTime one) = codes "a leaf's number is greater than the certificate's time, or than the number of its line high"
 sentence (verdict.BadPosition one) = codes "a split at a position that doesn't exist or isn't free there"
 sentence (verdict.NotAPoint one) = codes "a leaf of one pair where a bit is still free"
-sentence verdict.OtherCircuit = codes "it is of a circuit with another number of inputs or gates"
-sentence verdict.PairNotAdmitted = codes "its pair isn't one that its lines first, second, hold and flips admit"
-sentence (verdict.LeafNotEmpty one) = codes "a leaf claims that no admitted pair lies in its cube, but one does"
+sentence verdict.OtherCircuit = codes "its numbers of inputs and gates, or its conditions, don't fit the circuit"
+sentence verdict.PairNotAdmitted = codes "its pair isn't one that its lines first, second, hold, flips and keep admit"
+sentence (verdict.LeafNotEmpty one) = codes "a leaf claims that no admitted pair lies in its cube, but one may"
 sentence (verdict.BadStep line reason) = flaw_sentence reason
 sentence (verdict.OtherQuestion one) = codes "it is about other default delays, or about other outputs"
 

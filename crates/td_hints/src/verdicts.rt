@@ -32,12 +32,14 @@ pub fn sentence(verdict: Verdict) -> &'static [u8]
         }
         Verdict::BadPosition(_) => b"a split at a position that doesn't exist or isn't free there",
         Verdict::NotAPoint(_) => b"a leaf of one pair where a bit is still free",
-        Verdict::OtherCircuit => b"it is of a circuit with another number of inputs or gates",
+        Verdict::OtherCircuit => {
+            b"its numbers of inputs and gates, or its conditions, don't fit the circuit"
+        }
         Verdict::PairNotAdmitted => {
-            b"its pair isn't one that its lines first, second, hold and flips admit"
+            b"its pair isn't one that its lines first, second, hold, flips and keep admit"
         }
         Verdict::LeafNotEmpty(_) => {
-            b"a leaf claims that no admitted pair lies in its cube, but one does"
+            b"a leaf claims that no admitted pair lies in its cube, but one may"
         }
         Verdict::BadStep(_, flaw) => flaw_sentence(flaw),
         Verdict::OtherQuestion(_) => b"it is about other default delays, or about other outputs",
