@@ -636,7 +636,7 @@ Each reason why certificates aren't joined.
   > bash part.sh '2 1' 1. .. .. 2 '' 0 10 10 none > empty
   $ tdelay join and.v low more_gates --hints
   tdelay: more_gates: other circuit
-  more_gates: it is of a circuit with another number of inputs or gates
+  more_gates: its numbers of inputs and gates, or its conditions, don't fit the circuit
     help: give the netlist that it was made for; `info` counts inputs and gates
   [4]
   $ tdelay join and.v low other_hold --hints
