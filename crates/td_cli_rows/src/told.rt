@@ -1,7 +1,7 @@
 //! A text that tells how the netlist is read, and a bound.
 
 use std::test::*;
-use td_certificate::{Question, Terms, Version, read};
+use td_certificate::{Node, Question, Terms, Version, read};
 use td_domain::Admit;
 
 const TOLD: &[u8] =
@@ -15,7 +15,23 @@ fn terms_of_a_text(rt: HostRuntime) -> Result<(), Fail> {
     let outputs = terms.outputs.as_ref().ok_or("outputs")?;
     assert_eq!(rt; (terms.rise, terms.fall), (2, 3));
     assert_eq!(rt; outputs.as_slice(), [0u64, 7].as_slice());
-    assert_eq!(rt; (certificate.time, certificate.high), (3, 5));
+    let claim = certificate.claim.as_ref().ok_or("claim")?;
+    assert_eq!(rt; (claim.time, claim.high), (3, 5));
+    Ok(())
+}
+
+const NONE: &[u8] =
+    b"tdelay-cert 4\ncircuit 1 1\ndefault 1 1\noutput all\nfirst .\nsecond .\nhold .\n\
+flips 1\nat 0\nkeep 2 01 2 10\ntime none\nx\nf 2\nq none\n";
+
+#[test]
+fn no_pair_of_a_text(rt: HostRuntime) -> Result<(), Fail> {
+    let certificate = read(rt.alloc(), NONE)?;
+    assert!(&rt; certificate.claim.is_none());
+    let [Node::Refuted(refuted)] = certificate.tree.nodes() else {
+        return Err("one leaf")?;
+    };
+    assert_eq!(rt; refuted.bound(), None);
     Ok(())
 }
 

@@ -2,6 +2,7 @@
 use Rattle.std.specs.Prelude.{◌≡◌, ℕ, List, [], ◌++◌, ◌==◌, codes, decimal, Option, Some, None, if◌then◌else◌}
 use Rattle.td_reading.specs.declared.reading.Reading.{Reading}
 use Rattle.td_certificate.specs.declared.certificate.Certificate.{Certificate}
+use Rattle.td_certificate.specs.declared.certificate.Claim.{Claim}
 use Rattle.td_certificate.specs.Plain.{reported_text}
 use Rattle.td_certificate.specs.Spelling.{Spells, version_in}
 use Rattle.td_checker.specs.declared.verdict.Verdict.{Verdict}
@@ -19,10 +20,15 @@ accepted_line time high =
     if time == high then codes "accepted " ++ decimal time ++ newline
     else codes "accepted between " ++ decimal time ++ codes " " ++ decimal high ++ newline
 
+-- what is claimed, if a pair is
+abbrev pub claimed_line : Option Claim → List ℕ
+claimed_line None = codes "accepted none" ++ newline
+claimed_line (Some claim) = accepted_line claim.time claim.high
+
 -- what a certificate that is accepted says, and the lines of its text that tell what it is about,
 -- which the first version of the text hasn't, and the fourth where they aren't plain
 abbrev pub accepted_text : Certificate → List ℕ
-accepted_text certificate = accepted_line certificate.time certificate.high ++ reported_text (version_in certificate) certificate.question
+accepted_text certificate = claimed_line certificate.claim ++ reported_text (version_in certificate) certificate.question
 
 -- the line of the certificate's text that a verdict is about, where it is about one
 abbrev pub place_text : Option ℕ → List ℕ

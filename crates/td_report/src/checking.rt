@@ -4,14 +4,14 @@ ghost use Rattle.std.specs.Prelude.{◌≡◌, ◌++◌, IfOk, IfErr, OnOk};
 ghost use Rattle.td_certificate.specs.Plain.{reported_text};
 ghost use Rattle.td_certificate.specs.Spelling.{version_in};
 ghost use Rattle.td_checker.specs.declared.verdict.Verdict.TheVariants as Reported;
-ghost use Rattle.td_report.specs.CheckReports.{accepted_line, accepted_text, refusing_text, refused_text, place_text, verdict_text, ending_of, IsCheckReport};
+ghost use Rattle.td_report.specs.CheckReports.{accepted_line, claimed_line, accepted_text, refusing_text, refused_text, place_text, verdict_text, ending_of, IsCheckReport};
 ghost use Rattle.td_report.specs.Outcomes.{HasNoVerdict, refusal_of};
 
 use crate::refusal::Refusal;
 use crate::status::Status;
 use crate::text::Text;
 use std::alloc::{AllocError, Global};
-use td_certificate::{Certificate, push_reported};
+use td_certificate::{Certificate, Claim, push_reported};
 use td_checker::{CheckFault, Verdict, check_owned};
 use td_reading::Reading;
 
@@ -87,8 +87,18 @@ fn report_of(alloc: Global, verdict: Verdict, certificate: &Certificate) -> Resu
 fn accepted(alloc: Global, text: &mut Text, certificate: &Certificate) -> Result<(), AllocError>
     ensures { OnOk result (text.new ≡ text.old ++ accepted_text certificate.now) }
 {
-    accepted_line(text, certificate.time, certificate.high)?;
+    claimed_line(text, &certificate.claim)?;
     about(alloc, text, certificate)
+}
+
+/// Appends what is claimed: the moments, if a pair is, or that none is admitted.
+fn claimed_line(text: &mut Text, claim: &Option<Claim>) -> Result<(), AllocError>
+    ensures { OnOk result (text.new ≡ text.old ++ claimed_line claim.now) }
+{
+    match claim {
+        None => text.push(b"accepted none\n"),
+        Some(claim) => accepted_line(text, claim.time, claim.high),
+    }
 }
 
 /// Appends the time, and where it isn't surely the worst delay, the moment after which no admitted
