@@ -547,7 +547,7 @@ Each verdict but for `Accepted`.
   [4]
   $ bash hint.sh hidden.v 'tdelay-cert 2/circuit 2 4/first ../second ../hold ../flips 1/time 5/from 01/to 11/s 0/s 1/none/s 2/s 3/b a 0/none/b a 5/b a 5/'
   refused 9 LeafNotEmpty line 12
-  c:12: a leaf claims that no admitted pair lies in its cube, but one may
+  c:12: a leaf has to show that no admitted pair lies in its cube, and doesn't
     help: the certificate is wrong: search again
   [4]
 

@@ -1,10 +1,12 @@
 -- What `join` prints, and why it joins nothing.
-use Rattle.std.specs.Prelude.{◌≡◌, ◌≢◌, ◌<◌, ◌≤◌, ℕ, Bool, true, List, [], ◌∷◌, All, length, get_or, ◌⊎◌, Option, Some, None}
+use Rattle.std.specs.Prelude.{◌≡◌, ◌≢◌, ◌<◌, ◌≤◌, ℕ, Bool, true, List, [], ◌∷◌, ◌++◌, codes, All, length, get_or, ◌⊎◌, Option, Some, None}
 use Rattle.std.specs.List.{AllZip, Contains}
 use Rattle.td_reading.specs.declared.reading.Reading.{Reading}
 use Rattle.td_nets.specs.Netlist.{Netlist}
 use Rattle.td_domain.specs.declared.cubes.Trit.{Trit}
 use Rattle.td_certificate.specs.declared.certificate.Certificate.{Certificate}
+use Rattle.td_certificate.specs.declared.certificate.Claim.{Claim}
+use Rattle.td_certificate.specs.declared.tree.Node.{Node}
 use Rattle.td_certificate.specs.Accepts.{Accepts, IsOfSize}
 use Rattle.td_certificate.specs.declared.fault.CertFaultKind.TheVariants as certificate_kind
 use Rattle.td_certificate.specs.Faults.{IsFault}
@@ -23,7 +25,8 @@ use Rattle.td_report.specs.declared.refusal.Refusal.TheVariants as refusal
 use Rattle.td_domain.specs.Cubes.{weave}
 use Rattle.td_command.specs.declared.command.JoinRequest.{JoinRequest}
 use Rattle.td_report.specs.Vectors.{words_of, AreTrits, VectorWords, GivesTrits}
-use Rattle.td_cli.specs.WorstReports.{worst_text}
+use Rattle.td_report.specs.Reports.{unit_lines}
+use Rattle.td_cli.specs.WorstReports.{nodes_line, answer_lines}
 use Rattle.td_report.specs.Outcomes.{HasNoCircuit, IsRefusedFor}
 use Rattle.td_files.specs.Disks.{Disk}
 use Rattle.td_delivery.specs.Disks.{Reads, HoldsOnFile}
@@ -95,9 +98,18 @@ pub record IsToJoin (disk : Disk) (text : List ℕ) (request : JoinRequest) (net
 abbrev pub most_nodes : ℕ
 most_nodes = 10000000
 
+-- what a whole claims: the time and the pair, as the report of a search tells them, or that no pair is
+-- admitted; and the number of its nodes
+abbrev pub claim_text : Option Claim → List Node → List ℕ
+claim_text None tree = codes "no admitted pair\n" ++ nodes_line (length tree)
+claim_text (Some claim) tree = answer_lines (Exact claim.time claim.pair tree)
+
+abbrev pub whole_text : Netlist → Certificate → List ℕ
+whole_text netlist whole = unit_lines netlist ++ claim_text whole.claim whole.tree
+
 -- The parts are joined into one certificate, which has a text and not too many nodes, and the
--- report tells its time, its pair and the number of its nodes, as that of a search does. Where each
--- part is accepted of a netlist, so is the whole.
+-- report tells what it claims and the number of its nodes. Where each part is accepted of a netlist,
+-- so is the whole.
 pub record IsJoinReport (disk : Disk) (text : List ℕ) (request : JoinRequest) (report : List ℕ) (whole : Certificate) : Type 0 where
   pub netlist : Netlist
   pub parts : List Certificate
@@ -107,7 +119,7 @@ pub record IsJoinReport (disk : Disk) (text : List ℕ) (request : JoinRequest) 
   pub has_text : HasSpelling whole
   pub few : length whole.tree ≤ most_nodes
   pub accepted : (any : Netlist) → All (Accepts any) parts → Accepts any whole
-  pub is : report ≡ worst_text netlist (Exact whole.time whole.pair whole.tree)
+  pub is : report ≡ whole_text netlist whole
 
 -- ---- why nothing is joined
 

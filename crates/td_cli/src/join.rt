@@ -1,6 +1,6 @@
 //! The command `join`: certificates of the parts of a question, joined into one.
 
-ghost use Rattle.std.specs.Prelude.{◌≡◌, ◌≢◌, ◌<◌, ◌≤◌, length, map, All, IfOk, IfErr, Some};
+ghost use Rattle.std.specs.Prelude.{◌≡◌, ◌≢◌, ◌<◌, ◌≤◌, length, map, ◌++◌, All, IfOk, IfErr, OnOk, Some};
 ghost use Rattle.td_nets.specs.Netlist.{Netlist};
 ghost use Rattle.td_certificate.specs.Accepts.{Accepts};
 ghost use Rattle.td_certificate.specs.Spelling.{HasSpelling};
@@ -9,10 +9,8 @@ ghost use Rattle.td_join.specs.Faults.{IsJoinFault};
 ghost use Rattle.td_report.specs.Ends.{Ends, streams};
 ghost use Rattle.td_files.specs.Files.{Takes};
 ghost use Rattle.td_report.specs.Vectors.{words_of, IsFirstBad};
-ghost use Rattle.td_cli.specs.JoinReports.{pin_words, ArePinned, whole_pins, IsUnjoinedFor, IsJoinReport, HasNoJoin, most_nodes};
+ghost use Rattle.td_cli.specs.JoinReports.{pin_words, ArePinned, whole_pins, IsUnjoinedFor, IsJoinReport, HasNoJoin, most_nodes, claim_text, whole_text};
 ghost use Rattle.td_cli.specs.Parts.{IsOfUnjoined};
-ghost use Rattle.td_cli.specs.WorstReports.{worst_text};
-ghost use Rattle.td_search.specs.declared.answers.Answer.TheVariants as Answered;
 ghost use Rattle.td_cli.specs.Requests.{IsJoinProduct, RequestRuns};
 ghost use Rattle.td_report.specs.declared.refusal.Refusal.TheVariants as Reason;
 ghost use Rattle.td_command.specs.declared.command.Request.TheVariants as Asked;
@@ -20,7 +18,7 @@ ghost use Rattle.td_command.specs.declared.command.Request.TheVariants as Asked;
 use crate::answer::exact_answer;
 use crate::gathering::parts_in;
 use std::alloc::{AllocError, Global};
-use td_certificate::Certificate;
+use td_certificate::{Certificate, Claim, Tree};
 use td_circuit::Circuit;
 use td_command::{JoinRequest, MOST_NODES};
 use td_delivery::telling::{Product, hand_over, tell_refusal, tell_unread};
@@ -117,13 +115,26 @@ fn whole_of<'a>(
     Ok(whole)
 }
 
-/// The report of a whole, as that of a search.
+/// Appends what is claimed, and the number of nodes of its tree.
+fn claim_of(text: &mut Text, claim: &Option<Claim>, tree: &Tree) -> Result<(), AllocError>
+    ensures { OnOk result (text.new ≡ text.old ++ claim_text claim.now tree.now) }
+{
+    match claim {
+        None => {
+            text.push(b"no admitted pair\n")?;
+            text.number_between(b"nodes ", tree.nodes().len() as u64, b"\n")
+        }
+        Some(claim) => exact_answer(text, claim.time, &claim.pair, tree),
+    }
+}
+
+/// The report of a whole.
 fn report_of(alloc: Global, circuit: &Circuit, whole: &Certificate) -> Result<Text, AllocError>
-    ensures { IfOk result (λ text. text ≡ worst_text circuit.now.netlist (Answered.Exact whole.now.time whole.now.pair whole.now.tree)) }
+    ensures { IfOk result (λ text. text ≡ whole_text circuit.now.netlist whole.now) }
 {
     let mut text = Text::new(alloc);
     report::head(&mut text, circuit)?;
-    exact_answer(&mut text, whole.time, &whole.pair, &whole.tree)?;
+    claim_of(&mut text, &whole.claim, &whole.tree)?;
     Ok(text)
 }
 
