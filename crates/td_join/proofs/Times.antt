@@ -46,7 +46,7 @@ one_more P certificates place x less is has before = All-more P certificates pla
 
 -- the next one is greater
 pub newer : (certificates : List Certificate) (place old next : ℕ) (x y : Certificate) → place < length certificates → x ≡ get_or certificates place x
-    → old < length certificates → y ≡ get_or certificates old y → IsNotLater y.claim x.claim
+    → old < length certificates → y ≡ get_or certificates old y → IsNotLater (get_or certificates old y).claim x.claim
     → ((w : Certificate) → slice_get certificates old ≡ Some w → All (λ c. IsNotLater c.claim w.claim) (take place certificates)) → next ≡ place
     → (w : Certificate) → slice_get certificates next ≡ Some w → All (λ c. IsNotLater c.claim w.claim) (take (place + 1) certificates)
 newer certificates place old next x y less is within was greater before now w stands =
@@ -54,7 +54,8 @@ newer certificates place old next x y less is within was greater before now w st
     let same : x ≡ w = is ∙ slice_get-get certificates place w x here in
     let all = before y (get-slice_get certificates old y y within (sym was)) in
     let more : IsNotLater x.claim w.claim = subst (λ (c : Certificate). IsNotLater x.claim c.claim) same (same_claim x.claim) in
-    let least : IsNotLater y.claim w.claim = subst (λ (c : Certificate). IsNotLater y.claim c.claim) same greater in
+    let lower : IsNotLater y.claim x.claim = subst (λ (c : Certificate). IsNotLater c.claim x.claim) (sym was) greater in
+    let least : IsNotLater y.claim w.claim = subst (λ (c : Certificate). IsNotLater y.claim c.claim) same lower in
     one_more (λ c. IsNotLater c.claim w.claim) certificates place x less is more
     (All-weaker (λ c. IsNotLater c.claim y.claim) (λ c. IsNotLater c.claim w.claim) (λ c h. not_later_through c.claim y.claim w.claim h least) (take place certificates) all)
   where
@@ -64,10 +65,10 @@ newer certificates place old next x y less is within was greater before now w st
 
 -- it isn't
 pub older : (certificates : List Certificate) (place old next : ℕ) (x y : Certificate) → place < length certificates → x ≡ get_or certificates place x
-    → y ≡ get_or certificates old y → IsNotLater x.claim y.claim
+    → y ≡ get_or certificates old y → IsNotLater x.claim (get_or certificates old y).claim
     → ((w : Certificate) → slice_get certificates old ≡ Some w → All (λ c. IsNotLater c.claim w.claim) (take place certificates)) → next ≡ old
     → (w : Certificate) → slice_get certificates next ≡ Some w → All (λ c. IsNotLater c.claim w.claim) (take (place + 1) certificates)
 older certificates place old next x y less is was few before now w stands =
     let here : slice_get certificates old ≡ Some w = subst (λ (n : ℕ). slice_get certificates n ≡ Some w) now stands in
     let same : y ≡ w = was ∙ slice_get-get certificates old w y here in
-    one_more (λ c. IsNotLater c.claim w.claim) certificates place x less is (subst (λ (c : Certificate). IsNotLater x.claim c.claim) same few) (before w here)
+    one_more (λ c. IsNotLater c.claim w.claim) certificates place x less is (subst (λ (c : Certificate). IsNotLater x.claim c.claim) same (subst (λ (c : Certificate). IsNotLater x.claim c.claim) (sym was) few)) (before w here)
