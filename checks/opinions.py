@@ -17,7 +17,7 @@ import re
 import shutil
 import sys
 
-from lib import check
+from lib import check, conditions
 from lib.netlists import KINDS
 
 import second_domains
@@ -266,7 +266,7 @@ def question_lines(version, defaults, question):
     if version > 2:
         lines.append("at " + (" ".join(map(str, question.moments)) or "none"))
     if version > 3:
-        lines.append("keep none")
+        lines.append("keep " + conditions.text_of(question.keep))
     return lines
 
 
@@ -345,6 +345,8 @@ def changed_line(rng, line):
         place = rng.randrange(len(words[1]))
         symbol = rng.choice(SYMBOLS[words[0]] if rng.random() < 0.9 else "01.=x ")
         return f"{words[0]} {words[1][:place]}{symbol}{words[1][place + 1:]}"
+    if words[0] == "keep" and words[1:]:
+        return conditions.changed(rng, line)
     if words[0] == "at" and words[1:]:
         words[rng.randrange(1, len(words))] = rng.choice(
             ["0", "1", "00", "1000000000", "1000000001", "none", "5"]

@@ -2,11 +2,12 @@
 """Compares `check` of certificates of version 4 with tools/second_opinion.py, and what is accepted
 with runs of all admitted pairs.
 
-Makes small random circuits and questions, and for each of them certificates whose trees have leaves
-by spans among others (lib/refuting.py): good ones; ones with lines of such leaves changed, taken
-away, doubled or put elsewhere, with lines put in (lib/tampering.py), and with lesser claims, all
-that is late being sooner; leaves of random steps; and those that `worst` writes. The program has to
-accept the good ones. Of each certificate both have to say the same, verdict and line, or fault of
+Makes small random circuits and questions, with conditions (lib/conditions.py) and without, and for
+each of them certificates whose trees have leaves by spans among others (lib/refuting.py): good
+ones; ones with lines of such leaves changed, taken away, doubled or put elsewhere, with lines put
+in (lib/tampering.py), and with lesser claims, all that is late being sooner; ones with changed
+conditions; leaves of random steps; and those that `worst` writes. The program has to accept the
+good ones. Of each certificate both have to say the same, verdict and line, or fault of
 the text and line. What the program takes has to be true by an event queue (lib/event_queue.py),
 which knows no spans: the time of a certificate that it accepts is the greatest delay of all
 admitted pairs; and up to the line that it refuses, each clause of a leaf holds in each run of the
@@ -21,7 +22,7 @@ import re
 import sys
 
 import opinions
-from lib import check, event_queue, places, refuting, tampering, truth
+from lib import check, conditions, event_queue, places, refuting, tampering, truth
 from lib.netlists import random_netlist, wide_netlist
 
 import second_opinion as opinion
@@ -40,22 +41,30 @@ CHANGES = [
     ("\ntime 3\n", "\ntime 4\n", "refused 2 PairTime"),
     ("\ndefault 1 1\n", "\ndefault 1 2\n", "refused 11 OtherQuestion line 3"),
     ("\noutput all\n", "\noutput 0\n", "refused 11 OtherQuestion line 4"),
-    ("\nkeep none\n", "\nkeep 7 .1\n", "certificate fault 1 Syntax at line 10"),
+    ("\nkeep none\n", "\nkeep 7 .1\n", "refused 8 PairNotAdmitted"),
+    ("\nkeep none\n", "\nkeep 3 ==\n", "refused 8 PairNotAdmitted"),
+    ("\nkeep none\n", "\nkeep 7 .0 7 ==\n", "accepted 3"),
+    ("\nkeep none\n", "\nkeep 7 0. 7 .0\n", "refused 7 OtherCircuit"),
+    ("\nkeep none\n", "\nkeep 8 .0\n", "refused 7 OtherCircuit"),
+    ("\nkeep none\n", "\nkeep 7 ..\n", "certificate fault 1 Syntax at line 10"),
 ]
 # The most pairs that are run.
 PAIRS = 1024
+# The place of the line of conditions.
+LINE_KEEP = 9
 
 
-def pairs_of(question):
+def pairs_of(circuit, question):
     """All admitted pairs, as cubes."""
     choices = [(0, 1) if pin == X else (pin,) for pin in question.pins]
-    pairs = (list(pair) for pair in itertools.product(*choices))
-    return [pair for pair in pairs if opinion.has_admitted(question, pair)]
+    pairs = [list(pair) for pair in itertools.product(*choices)]
+    pairs = [pair for pair in pairs if opinion.has_admitted(question, pair)]
+    return conditions.kept(circuit, pairs, question)
 
 
 def worst_pair(circuit, question):
     """The greatest delay of the admitted pairs, and a pair that has it; None without a pair."""
-    pairs = pairs_of(question)
+    pairs = pairs_of(circuit, question)
     if not pairs:
         return None
     waves = event_queue.run_of(circuit, pairs, question.moments).waves
@@ -72,7 +81,7 @@ def worst_pair(circuit, question):
 def leaf_of(rng, circuit, question, cube, time):
     """The lines of some leaf that is good for a cube, None where the cube is to be split."""
     free = X in cube
-    if rng.random() < 0.8 and not opinion.has_admitted(question, cube):
+    if rng.random() < 0.8 and not opinion.may_lie(circuit, question, cube):
         return ["none"]
     if rng.random() < 0.6:
         bound = time if rng.random() < 0.6 else rng.randint(0, time)
@@ -114,7 +123,7 @@ def tree_lines(rng, circuit, question, time, most):
 
 def random_leaf(rng, circuit, question, time):
     """The lines of a tree of one leaf of random steps, some of them not good."""
-    pairs = pairs_of(question)
+    pairs = pairs_of(circuit, question)
     waves = [
         [[(-1, start), *changes] for start, changes in opinion.signals(opinion.RUN, circuit, *it)]
         for it in ((pair, question.moments) for pair in rng.sample(pairs, min(4, len(pairs))))
@@ -144,7 +153,8 @@ def kinds_of(answer, origin, line, letters):
     out, fault, status = answer
     taken = [f"good {letter}" for letter in letters]
     if status == 0:
-        return ["accepted", f"accepted, {origin}", *taken]
+        keeps = ["accepted, conditions"] * ("\nkeep none\n" not in out)
+        return ["accepted", f"accepted, {origin}", *keeps, *taken]
     verdict = re.match(r"refused \d+ (\w+)", out)
     kind = re.match(r"tdelay: certificate fault \d+ (\w+)", fault)
     bad = [f"bad {line[:1]}"] * ("BadStep" in out)
@@ -155,7 +165,7 @@ def is_true(setup, certificate):
     """Whether the greatest delay of a certificate's admitted pairs is what it says."""
     read = opinion.read_certificate(certificate)
     latest = event_queue.latest_change(
-        setup.circuit, pairs_of(read.question), read.question.moments
+        setup.circuit, pairs_of(setup.circuit, read.question), read.question.moments
     )
     return read.time <= latest <= read.high
 
@@ -206,6 +216,9 @@ def compare_example(tested):
 def changed(rng, head, tree):
     """A changed certificate, as lines or as bytes."""
     way = rng.random()
+    if way < 0.15:
+        keep = conditions.changed(rng, head[LINE_KEEP])
+        return [*head[:LINE_KEEP], keep, *head[LINE_KEEP + 1 :], *tree]
     if way < 0.8:
         return head + tampering.tampered(rng, tree)
     if way < 0.9:
@@ -218,7 +231,7 @@ def lesser(setup, question, worst, tree):
     now and then all that is late is sooner by as much.
     """
     rng, circuit = setup.rng, setup.circuit
-    pair = rng.choice(pairs_of(question))
+    pair = rng.choice(pairs_of(circuit, question))
     time = event_queue.latest_change(circuit, [pair], question.moments)
     if time == worst:
         return None
@@ -281,6 +294,12 @@ def compare_circuit(tested, rng):
         if worst:
             compare_own(setup, question, *worst)
             compare_written(setup, words, question, worst[0])
+        pairs = pairs_of(circuit, question)
+        keep = conditions.random_conditions(rng, circuit, pairs, question.moments)
+        asked = question._replace(keep=keep)
+        worst = worst_pair(circuit, asked)
+        if worst:
+            compare_own(setup, asked, *worst)
 
 
 def work(tested):
@@ -305,7 +324,11 @@ SHARES = {
     "LeafBound": 0.02,
     "LeafAboveTime": 0.002,
     "Syntax": 0.01,
-    **{f"good {letter}": 0.02 for letter in VARIABLES + STEPS if letter != "k"},
+    "accepted, conditions": 0.05,
+    "PairNotAdmitted": 0.002,
+    "OtherCircuit": 0.005,
+    "LeafNotEmpty": 0.002,
+    **{f"good {letter}": 0.02 for letter in VARIABLES + STEPS},
     **{f"bad {letter}": 0.001 for letter in VARIABLES + STEPS},
 }
 

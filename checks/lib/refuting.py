@@ -10,7 +10,7 @@ which takes each as it is written: one that isn't is an error here.
 
 from collections import namedtuple
 
-from second_levels import X
+from second_levels import X, settled
 from second_spans import EVER, BadStep, Leaf, Span, is_sure, sure_spans
 
 # What is known of a net: a span, the true literal that says it, and the facts that give it. Where
@@ -84,13 +84,26 @@ def in_cone(circuit, net):
     return sorted(found)
 
 
+def others_than(form, known):
+    """The levels of a net, by `i` and `f`, that aren't as a condition has them; none where they are
+    or may be.
+    """
+    if form == "==":
+        return known if set(known.values()) == {0, 1} else {}
+    wanted = {letter: int(it) for letter, it in zip("if", form) if it != "."}
+    found = [letter for letter in wanted if known[letter] == 1 - wanted[letter]]
+    return {letter: known[letter] for letter in found[:1]}
+
+
 class Proof:
     """That a net is at rest, as a tree over the bits of the inputs."""
 
     def __init__(self, leaf, goal, branches):
         self.leaf, self.goal, self.branches = leaf, goal, branches
         self.nets = in_cone(leaf.circuit, goal.net)
-        inputs = [net for net in self.nets if net < leaf.circuit.inputs]
+        asked = [net for net, _ in leaf.state.keep]
+        cones = [net for each in [goal.net, *asked] for net in in_cone(leaf.circuit, each)]
+        inputs = [net for net in dict.fromkeys(cones) if net < leaf.circuit.inputs]
         cube = leaf.state.cube
         # The literals of the facts that are written for the goal, by their spans.
         self.written = {}
@@ -196,11 +209,58 @@ class Proof:
                 pass
         return [self.leaf.clause("u", *literals)], [literal ^ 1 for literal in literals]
 
+    def broken(self, bits):
+        """What shows that a condition isn't kept where these bits are known, or None."""
+        leaf, inputs = self.leaf, range(self.leaf.circuit.inputs)
+        levels = {}
+        for side, letter in enumerate("if"):
+            vector = [bits.get((letter, net), leaf.state.cube[2 * net + side]) for net in inputs]
+            levels[letter] = settled(leaf.circuit, vector)
+        for net, form in leaf.rng.sample(leaf.state.keep, len(leaf.state.keep)):
+            others = others_than(form, {letter: levels[letter][net] for letter in "if"})
+            if others:
+                hints, used = [], []
+                for letter in others:
+                    self.settle(letter, net, levels[letter], bits, hints, used)
+                literals = [leaf.at(letter, net, level) ^ 1 for letter, level in others.items()]
+                return [*hints, leaf.clause("k", *literals)], used
+        return None
+
+    def settle(self, letter, net, levels, bits, hints, used):
+        """Writes the steps that give the first or the last level of a net, by those of all nets."""
+        leaf, first = self.leaf, self.leaf.circuit.inputs + 2
+        literal = leaf.at(letter, net, levels[net])
+        if net < first:
+            if (letter, net) in bits:
+                used.append(literal)
+            else:
+                hints.append(leaf.clause("u", literal))
+            return
+        reads = dict.fromkeys(leaf.circuit.gates[net - first].inputs)
+        known = [each for each in reads if levels[each] != X and each not in (first - 2, first - 1)]
+        for each in leaf.rng.sample(known, len(known)):
+            fewer = [other for other in known if other is not each]
+            if self.is_by_table(literal, letter, fewer, levels):
+                known = fewer
+        for each in known:
+            self.settle(letter, each, levels, bits, hints, used)
+        body = [leaf.at(letter, each, levels[each]) ^ 1 for each in known]
+        hints.append(leaf.clause("t", literal, *body))
+
+    def is_by_table(self, literal, letter, known, levels):
+        """Whether a gate's table gives a literal by these terminals."""
+        body = [self.leaf.at(letter, each, levels[each]) ^ 1 for each in known]
+        try:
+            self.leaf.state.by_table(literal, *body)
+        except BadStep:
+            return False
+        return True
+
     def shown(self, bits):
         """The hints that show the goal where these bits are known, and the literals of bits that
         they use; None where nothing does.
         """
-        found = self.excluded(bits) or self.reached(self.facts(bits))
+        found = self.excluded(bits) or self.broken(bits) or self.reached(self.facts(bits))
         if found:
             return found
         self.branches -= 1
@@ -341,11 +401,26 @@ def is_about(leaf, clause, number):
     return all(letter in "wf" and net == number for letter, net, *_ in lines)
 
 
+def literals_kept(leaf):
+    """The literals of a step that may well be good, of a condition."""
+    rng, (net, form) = leaf.rng, leaf.rng.choice(leaf.state.keep)
+    net = leaf.numbers[net] if rng.random() < 0.9 else rng.randrange(len(leaf.numbers))
+    if form == "==":
+        return literal_with(leaf, "i", [net]), literal_with(leaf, "f", [net])
+    sides = [side for side in (0, 1) if form[side] != "." or rng.random() < 0.1]
+    side = rng.choice(sides)
+    sign = int(form[side] == "0") if rng.random() < 0.9 else rng.randint(0, 1)
+    return (literal_with(leaf, "if"[side], [net]) & ~1 | sign,)
+
+
 def random_step(leaf, net):
     """A step about a net that may well be good, as its letter and numbers."""
     rng, circuit = leaf.rng, leaf.circuit
     number, reads = leaf.numbers[net], [leaf.numbers[each] for each in read_by(circuit, net)]
-    letter, clauses = rng.choice("ggggttnnuulleer"), leaf.state.clauses
+    letters = "ggggttnnuulleer" + "kkk" * bool(leaf.state.keep)
+    letter, clauses = rng.choice(letters), leaf.state.clauses
+    if letter == "k":
+        return "k", *literals_kept(leaf)
     one = literal_with(leaf, "w" if rng.random() < 0.8 else "if", [number])
     if letter == "g":
         body = [literal_with(leaf, "wif", reads) for _ in range(rng.randint(0, 5))]
@@ -376,6 +451,8 @@ def chatter(leaf, tries, waves):
     """Writes random steps that are good. Gives one that isn't, if there was one."""
     rng, bad = leaf.rng, None
     net = rng.randrange(len(leaf.circuit.nets))
+    if leaf.state.keep and rng.random() < 0.5:
+        net = rng.choice(leaf.state.keep)[0]
     random_variables(leaf, net, waves)
     for _ in range(tries):
         step = random_step(leaf, net)

@@ -4,7 +4,7 @@ in each of them, and whether its nets are at rest when their ends say so.
 
 from operator import ne
 
-from . import event_queue
+from . import conditions, event_queue
 
 import second_opinion as opinion
 from second_opinion import X
@@ -18,7 +18,8 @@ class Runs:
         pairs = [[]]
         for level in cube:
             pairs = [[*pair, bit] for pair in pairs for bit in ((0, 1) if level == X else (level,))]
-        self.pairs = [pair for pair in pairs if opinion.has_admitted(question, pair)]
+        pairs = [pair for pair in pairs if opinion.has_admitted(question, pair)]
+        self.pairs = conditions.kept(circuit, pairs, question)
         run = event_queue.run_of(circuit, self.pairs, question.moments)
         self.waves, self.everyone = run.waves, run.everyone
 
