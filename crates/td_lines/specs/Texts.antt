@@ -156,6 +156,18 @@ place_text (Some line) = codes " line " ++ decimal line
 abbrev pub refused_line : ℕ → List ℕ → Option ℕ → List ℕ
 refused_line number name line = codes "refused " ++ decimal number ++ codes " " ++ name ++ place_text line ++ newline
 
+-- the time of a certificate that leaves the worst delay open, and the moment after which no admitted
+-- pair changes an output
+abbrev pub accepted_line : ℕ → ℕ → List ℕ
+accepted_line time high = codes "accepted between " ++ decimal time ++ codes " " ++ decimal high ++ newline
+
+abbrev pub default_line : ℕ → ℕ → List ℕ
+default_line rise fall = codes "default " ++ decimal rise ++ codes " " ++ decimal fall ++ newline
+
+abbrev pub output_line : Option ℕ → List ℕ
+output_line None = codes "output all" ++ newline
+output_line (Some number) = codes "output " ++ decimal number ++ newline
+
 abbrev pub line_text : Line → List ℕ
 line_text (line.Module name) = word_line (codes "module ") name
 line_text (line.Unit unit) = unit_line unit
@@ -181,11 +193,15 @@ line_text (line.Nodes count) = number_line (codes "nodes ") count
 line_text (line.Each rows) = flat_map row_line rows.items
 line_text (line.Parts parts) = flat_map part_line parts.items
 line_text (line.Accepted time) = number_line (codes "accepted ") time
+line_text (line.AcceptedBetween time high) = accepted_line time high
+line_text (line.Default rise fall) = default_line rise fall
+line_text (line.OutputNumber number) = output_line number
 line_text (line.First pins) = word_line (codes "first ") pins
 line_text (line.Second pins) = word_line (codes "second ") pins
 line_text (line.Hold mask) = word_line (codes "hold ") mask
 line_text (line.Flips count) = number_line (codes "flips ") count
 line_text (line.At moments) = at_line moments
+line_text (line.Keep conditions) = word_line (codes "keep ") conditions
 line_text (line.Refused number name line) = refused_line number name.now line
 
 abbrev pub report_text : List Line → List ℕ

@@ -1,5 +1,5 @@
 -- The JSON of a report: an object with a member for each line.
-use Rattle.std.specs.Prelude.{◌≡◌, ℕ, Bool, List, [], ◌∷◌, ◌++◌, codes, decimal, Option, Some, None}
+use Rattle.std.specs.Prelude.{◌≡◌, ℕ, List, [], ◌∷◌, ◌++◌, codes, decimal, Option, Some, None}
 use Rattle.std.specs.List.{flat_map}
 use Rattle.json.specs.Json.{Json, null, number, string, array, object, Items, no_items, item, Members, no_members, member}
 use Rattle.json.specs.Token.{Token}
@@ -102,6 +102,14 @@ refused_value count name None = array (item (number (decimal count)) (item (stri
 refused_value count name (Some line) =
     array (item (number (decimal count)) (item (string name) (item (string (codes "line")) (item (number (decimal line)) no_items))))
 
+abbrev pub delays_text : ℕ → ℕ → List ℕ
+delays_text rise fall = decimal rise ++ codes " " ++ decimal fall
+
+-- the number of an output, or that all are meant
+abbrev pub output_value : Option ℕ → Json
+output_value None = named (codes "all")
+output_value (Some count) = array (item (array (item (number (decimal count)) no_items)) no_items)
+
 abbrev pub key_of : Line → List ℕ
 key_of (line.Module name) = codes "module"
 key_of (line.Unit unit) = codes "unit"
@@ -127,11 +135,15 @@ key_of (line.Nodes count) = codes "nodes"
 key_of (line.Each rows) = codes "each"
 key_of (line.Parts parts) = codes "parts"
 key_of (line.Accepted time) = codes "accepted"
+key_of (line.AcceptedBetween time high) = codes "accepted"
+key_of (line.Default rise fall) = codes "default"
+key_of (line.OutputNumber count) = codes "output"
 key_of (line.First pins) = codes "first"
 key_of (line.Second pins) = codes "second"
 key_of (line.Hold mask) = codes "hold"
 key_of (line.Flips count) = codes "flips"
 key_of (line.At moments) = codes "at"
+key_of (line.Keep conditions) = codes "keep"
 key_of (line.Refused count name line) = codes "refused"
 
 abbrev pub value_of : Line → Json
@@ -159,11 +171,15 @@ value_of (line.Nodes count) = number (decimal count)
 value_of (line.Each rows) = array (items_by row_value rows.items)
 value_of (line.Parts parts) = array (items_by part_value parts.items)
 value_of (line.Accepted time) = number (decimal time)
+value_of (line.AcceptedBetween time high) = null
+value_of (line.Default rise fall) = string (delays_text rise fall)
+value_of (line.OutputNumber count) = output_value count
 value_of (line.First pins) = string pins
 value_of (line.Second pins) = string pins
 value_of (line.Hold mask) = string mask
 value_of (line.Flips count) = number (decimal count)
 value_of (line.At moments) = at_value moments
+value_of (line.Keep conditions) = string conditions
 value_of (line.Refused count name line) = refused_value count name.now line
 
 -- a member of an object

@@ -6,6 +6,7 @@
 //! A new line is a variant of `Line`, an arm in `text`, an arm in `members`, and their helpers.
 #![tactic(auto)]
 
+mod claims;
 mod label;
 mod line;
 mod members;

@@ -135,8 +135,21 @@ pub enum Line {
     Each(Vec<Row>),
     /// The parts of a question.
     Parts(Vec<Part>),
-    /// The time of a certificate that is accepted.
+    /// The time of a certificate that is accepted: the worst delay.
     Accepted(u64),
+    /// Where it leaves that open: its time, and the moment after which no admitted pair changes an
+    /// output.
+    AcceptedBetween {
+        time: u64,
+        high: u64,
+    },
+    /// The delays of gates that state none, in steps, of a certificate.
+    Default {
+        rise: u64,
+        fall: u64,
+    },
+    /// The number of the output that it is about, or that it is about all.
+    OutputNumber(Option<u64>),
     /// What is pinned in the first vector, of a certificate.
     First(Label),
     /// And in the second.
@@ -147,6 +160,8 @@ pub enum Line {
     Flips(u64),
     /// When each input changes.
     At(Moments),
+    /// The conditions that pairs keep.
+    Keep(Label),
     /// The verdict that refuses a certificate, and the line of its text that it is about.
     Refused {
         number: u8,

@@ -8,6 +8,7 @@ ghost use Rattle.td_lines.specs.declared.line.Found.TheVariants as FoundAs;
 ghost use Rattle.td_lines.specs.Texts.{bit, bits, level_text, kind_text};
 ghost use Rattle.td_lines.specs.Values.{Adds, items_by, rows_tokens, count_value, unit_text, cause_text, moment_of, numbers_of, span_value, place_value, last_value, driven_value, change_value, edges_value, found_value, row_value, part_value, member_tokens, line_tokens, members_of, report_json, named, at_value, refused_value};
 
+use crate::claims;
 use crate::label::Label;
 use crate::line::{Cause, Change, Driver, Found, Last, Line, Part, Place, Row, Span};
 use crate::moments::Moments;
@@ -113,11 +114,15 @@ fn member(alloc: Global, writer: &mut Writer, line: &Line) -> Result<(), AllocEr
         Line::Each(rows) => lists(writer, "each", rows),
         Line::Parts(rows) => lists(writer, "parts", rows),
         Line::Accepted(time) => count_of(writer, "accepted", *time),
+        Line::AcceptedBetween { .. } => bound(writer, "accepted", None),
+        Line::Default { rise, fall } => claims::default(alloc, writer, *rise, *fall),
+        Line::OutputNumber(number) => claims::output_number(writer, *number),
         Line::First(pins) => word(writer, "first", pins.text()),
         Line::Second(pins) => word(writer, "second", pins.text()),
         Line::Hold(mask) => word(writer, "hold", mask.text()),
         Line::Flips(count) => count_of(writer, "flips", *count),
         Line::At(moments) => at(writer, moments),
+        Line::Keep(conditions) => word(writer, "keep", conditions.text()),
         Line::Refused { number, name, line } => refused(writer, *number, name, *line),
     }
 }
@@ -129,7 +134,7 @@ fn count_of(writer: &mut Writer, key: &str, count: u64) -> Result<(), AllocError
     writer.u64(count)
 }
 
-fn word(writer: &mut Writer, key: &str, text: &str) -> Result<(), AllocError>
+pub(crate) fn word(writer: &mut Writer, key: &str, text: &str) -> Result<(), AllocError>
     ensures { OnOk result (Adds writer.old writer.new (member_tokens key.now (string text.now))) }
 {
     writer.key(key)?;
@@ -265,7 +270,7 @@ fn vector(alloc: Global, writer: &mut Writer, key: &str, vector: &Vector) -> Res
 }
 
 /// An output alone in an array.
-fn output(writer: &mut Writer, name: &str) -> Result<(), AllocError>
+pub(crate) fn output(writer: &mut Writer, name: &str) -> Result<(), AllocError>
     ensures { OnOk result (Adds writer.old writer.new (member_tokens (codes "output") (named name.now))) }
 {
     writer.key("output")?;

@@ -152,6 +152,17 @@ fn checked(alloc: Global) -> Result<Report, AllocError> {
     Ok(report)
 }
 
+/// What a certificate of the fourth version is about.
+fn told(alloc: Global) -> Result<Report, AllocError> {
+    let mut report = Report::new(alloc);
+    report.add(Line::AcceptedBetween { time: 2, high: 5 })?;
+    report.add(Line::Default { rise: 1, fall: 3 })?;
+    report.add(Line::OutputNumber(None))?;
+    report.add(Line::OutputNumber(Some(4)))?;
+    report.add(Line::Keep(label(alloc, "2 01 5 ==")?))?;
+    Ok(report)
+}
+
 /// Whether a report is printed so.
 fn prints(
     rt: &impl Abort,
@@ -222,5 +233,18 @@ fn prints_a_verdict(rt: HostRuntime) -> Result<(), Fail> {
 refused 7 OtherCircuit\nrefused 3 LeafBound line 12\n",
         "{\"accepted\":5,\"first\":\"0.\",\"second\":\"..\",\"hold\":\"=.\",\"flips\":1,\"at\":[0,7],\"at\":null,\
 \"refused\":[7,\"OtherCircuit\"],\"refused\":[3,\"LeafBound\",\"line\",12]}\n",
+    )
+}
+
+#[test]
+fn prints_what_is_told(rt: HostRuntime) -> Result<(), Fail> {
+    let report = told(rt.alloc())?;
+    prints(
+        &rt,
+        rt.alloc(),
+        &report,
+        "accepted between 2 5\ndefault 1 3\noutput all\noutput 4\nkeep 2 01 5 ==\n",
+        "{\"accepted\":null,\"default\":\"1 3\",\"output\":[\"all\"],\"output\":[[4]],\
+\"keep\":\"2 01 5 ==\"}\n",
     )
 }

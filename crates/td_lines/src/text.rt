@@ -3,7 +3,7 @@
 ghost use Rattle.std.specs.Prelude.{◌≡◌, ◌++◌, List, ℕ, codes, Some, OnOk};
 ghost use Rattle.std.specs.List.{flat_map};
 ghost use Rattle.td_lines.specs.declared.line.Found.TheVariants as FoundAs;
-ghost use Rattle.td_lines.specs.Texts.{unit_line, number_line, delay_line, place_line, place_lines, moment_text, last_line, bound_text, bound_line, figure_key, between_line, cause_line, bit, bits, vector_line, line_text, report_text, word_line, spaced, spaced_moment, at_line, place_text, refused_line, level_text, kind_text, by_text, levels_text, changed_text, change_line, found_text, edges_text, row_line, words_text, spaced_word, part_line};
+ghost use Rattle.td_lines.specs.Texts.{unit_line, number_line, delay_line, place_line, place_lines, moment_text, last_line, bound_text, bound_line, figure_key, between_line, cause_line, bit, bits, vector_line, line_text, report_text, word_line, spaced, spaced_moment, at_line, place_text, refused_line, accepted_line, default_line, output_line, level_text, kind_text, by_text, levels_text, changed_text, change_line, found_text, edges_text, row_line, words_text, spaced_word, part_line};
 
 use crate::label::Label;
 use crate::line::{Cause, Change, Driver, Figure, Found, Last, Line, Part, Place, Row, Span};
@@ -70,11 +70,15 @@ impl Printed for Line {
             Line::Each(rows) => all(out, rows),
             Line::Parts(rows) => all(out, rows),
             Line::Accepted(time) => number(out, b"accepted ", *time),
+            Line::AcceptedBetween { time, high } => accepted_between(out, *time, *high),
+            Line::Default { rise, fall } => default(out, *rise, *fall),
+            Line::OutputNumber(number) => output_number(out, *number),
             Line::First(pins) => word(out, b"first ", pins),
             Line::Second(pins) => word(out, b"second ", pins),
             Line::Hold(mask) => word(out, b"hold ", mask),
             Line::Flips(count) => number(out, b"flips ", *count),
             Line::At(moments) => at(out, moments),
+            Line::Keep(conditions) => word(out, b"keep ", conditions),
             Line::Refused { number, name, line } => refused(out, *number, name, *line),
         }
     }
@@ -386,6 +390,29 @@ fn spaced(out: &mut Text, moments: &[u64]) -> Result<(), AllocError>
         return out.push(b" none");
     }
     all(out, moments)
+}
+
+fn accepted_between(out: &mut Text, time: u64, high: u64) -> Result<(), AllocError>
+    ensures { OnOk result (out.new ≡ out.old ++ accepted_line time high) }
+{
+    out.number_behind(b"accepted between ", time)?;
+    out.number_between(b" ", high, b"\n")
+}
+
+fn default(out: &mut Text, rise: u64, fall: u64) -> Result<(), AllocError>
+    ensures { OnOk result (out.new ≡ out.old ++ default_line rise fall) }
+{
+    out.number_behind(b"default ", rise)?;
+    out.number_between(b" ", fall, b"\n")
+}
+
+fn output_number(out: &mut Text, number: Option<u64>) -> Result<(), AllocError>
+    ensures { OnOk result (out.new ≡ out.old ++ output_line number) }
+{
+    match number {
+        None => out.push(b"output all\n"),
+        Some(number) => out.number_between(b"output ", number, b"\n"),
+    }
 }
 
 fn refused(out: &mut Text, number: u8, name: &str, line: Option<u32>) -> Result<(), AllocError>

@@ -18,3 +18,9 @@ returns-in-Err-clause-reported g c = g.met.W.Watch.reported_alike (problem_by Le
 
 pub returns-in-Ok-clause-time : goal.returns-in-Ok-clause-time
 returns-in-Ok-clause-time g c = λ known. c.combined.ensures.time c.args.limits.stop.now.can_be_set known c.in-Ok.ensures.time
+
+pub returns-in-Ok-clause-high : goal.returns-in-Ok-clause-high
+returns-in-Ok-clause-high g c = λ budget is.
+    let asked = problem_by Lead c.args.circuit.now c.args.admit.now in
+    (c.combined.ensures.narrower (problem_by Least c.args.circuit.now c.args.admit.now) budget c.args.limits.effort.budget is
+    (outcome_alike asked Least c.args.limits.effort.budget c.in-Ok.found (outcome_of asked c.args.limits.effort.budget c.in-Ok.found c.in-Ok.ensures.answer))).0.high
