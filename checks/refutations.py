@@ -153,7 +153,7 @@ def kinds_of(answer, origin, line, letters):
     out, fault, status = answer
     taken = [f"good {letter}" for letter in letters]
     if status == 0:
-        keeps = ["accepted, conditions"] * ("\nkeep none\n" not in out)
+        keeps = ["accepted, conditions"] * ("\nkeep " in out)
         return ["accepted", f"accepted, {origin}", *keeps, *taken]
     verdict = re.match(r"refused \d+ (\w+)", out)
     kind = re.match(r"tdelay: certificate fault \d+ (\w+)", fault)
