@@ -286,7 +286,7 @@ def for_bound(words: List[str]) -> List[str]:
 
 
 def moments_in(words: List[str]) -> List[str]:
-    """The moments NAME=M that options give."""
+    """The moments NAME=T that options give."""
     found = [it for before, it in zip(words, words[1:]) if before == "--at"]
     return found + [word[5:] for word in words if word.startswith("--at=")]
 

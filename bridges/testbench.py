@@ -1,5 +1,5 @@
 #!/usr/bin/env python3
-"""testbench.py GATES.v REPORT.json.. [--at NAME=M].. [--sdf FILE] [--vcd FILE] > TB.v: the pairs of
+"""testbench.py GATES.v REPORT.json.. [--at NAME=T].. [--sdf FILE] [--vcd FILE] > TB.v: the pairs of
 reports of `tdelay .. --json` as a Verilog test bench with the ports and buses of the design.
 
 The module `testbench` runs on the RTL, on the gates of GATES.v, or on the cells with the models of
@@ -107,12 +107,12 @@ def declared(port: Port) -> str:
 
 
 def moments_of(words: List[str]) -> Dict[str, int]:
-    """The moments of inputs, from words NAME=M."""
+    """The moments of inputs, from words NAME=T."""
     found = {}
     for word in words:
         name, _, moment = word.rpartition("=")
         if not name or not moment.isdigit():
-            raise Refusal("BadMoment", f"--at {word}", "write NAME=M, with a whole vector's name")
+            raise Refusal("BadMoment", f"--at {word}", "write NAME=T, with a whole vector's name")
         found[name] = int(moment)
     return found
 
@@ -123,7 +123,7 @@ def main():
     )
     words.add_argument("gates")
     words.add_argument("reports", nargs="+")
-    words.add_argument("--at", action="append", default=[], metavar="NAME=M")
+    words.add_argument("--at", action="append", default=[], metavar="NAME=T")
     words.add_argument("--sdf", default="")
     words.add_argument("--vcd", default="")
     asked = words.parse_args()

@@ -40,7 +40,9 @@ CHANGES = [
     ("\ntime 3\n", "\ntime 4\n", "refused 2 PairTime"),
     ("\ndefault 1 1\n", "\ndefault 1 2\n", "refused 11 OtherQuestion line 3"),
     ("\noutput all\n", "\noutput 0\n", "refused 11 OtherQuestion line 4"),
-    ("\nkeep none\n", "\nkeep 7 .1\n", "certificate fault 1 Syntax at line 10"),
+    ("\nkeep none\n", "\nkeep 7 .1\n", "refused 8 PairNotAdmitted"),
+    ("\nkeep none\n", "\nkeep 7 .0\n", "accepted 3"),
+    ("\nkeep none\n", "\nkeep 8 .0\n", "refused 7 OtherCircuit"),
 ]
 # The most pairs that are run.
 PAIRS = 1024

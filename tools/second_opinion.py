@@ -388,6 +388,15 @@ def told(work):
         return "", f"tdelay: {message}\n", status
 
 
+def told_lines(certificate):
+    """The lines of the question that `check` prints: of version 4 those that aren't plain."""
+    if certificate.terms is None:
+        return certificate.asked
+    plain = rf"default 1 1|output all|flips {certificate.inputs}|at (none|0( 0)*)|keep none"
+    plain = re.compile(rf"({plain}|(first|second|hold) (\.+|none))\n")
+    return "".join(it for it in certificate.asked.splitlines(True) if not plain.fullmatch(it))
+
+
 def check(circuit, defaults, output, text):
     """`check` of a certificate's text, of all outputs or the one of a name."""
     outputs = None
@@ -401,7 +410,7 @@ def check(circuit, defaults, output, text):
     if found == Verdict.Accepted:
         time, high = certificate.time, certificate.high
         claim = f"accepted {time}" if time == high else f"accepted between {time} {high}"
-        return report([claim]) + certificate.asked, "", 0
+        return report([claim]) + told_lines(certificate), "", 0
     place = f" line {line}" if line else ""
     return report([f"refused {found.value} {found.name}{place}"]), "", 4
 

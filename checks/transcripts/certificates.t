@@ -176,7 +176,7 @@ draft of it is none.
   > 1 Syntax at line 9|tdelay-cert 4/circuit 1 1/default 1 1/output all/first ./second ./hold ./flips 1/at none
   > 1 Syntax at line 10|tdelay-cert 4/circuit 1 1/default 1 1/output all/first ./second ./hold ./flips 1/at 0/time
   > 2 UnexpectedEnd at line 10|tdelay-cert 4/circuit 1 1/default 1 1/output all/first ./second ./hold ./flips 1/at 0/keep n
-  > 1 Syntax at line 10|tdelay-cert 4/circuit 1 1/default 1 1/output all/first ./second ./hold ./flips 1/at 0/keep 3 .1/
+  > 1 Syntax at line 10|tdelay-cert 4/circuit 1 1/default 1 1/output all/first ./second ./hold ./flips 1/at 0/keep 3 ../
   > 1 Syntax at line 11|tdelay-cert 4/circuit 1 1/default 1 1/output all/first ./second ./hold ./flips 1/at 0/keep none/high
   > 1 Syntax at line 12|tdelay-cert 4/circuit 1 1/default 1 1/output all/first ./second ./hold ./flips 1/at 0/keep none/time 3/from
   > 4 NumberTooLarge at line 12|tdelay-cert 4/circuit 1 1/default 1 1/output all/first ./second ./hold ./flips 1/at 0/keep none/time 3/high 1000000000000000001

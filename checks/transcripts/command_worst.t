@@ -294,8 +294,8 @@ The netlist is judged first, then the words in the order first, second, hold, at
   $ ls | grep '^d'
   [1]
 
-Both strategies lead to the same worst delay, by two workers too, and their certificates are accepted: those of `least` ask for all pairs
-and say no question, those of `lead` have leaves by edges and so say it.
+Both strategies lead to the same worst delay, by two workers too, and their certificates are accepted, also those of `lead`, which have leaves
+by edges.
 
   $ tdelay worst "$NETLISTS"/c17.v --strategy least --workers 2 --cert c | grep exact; tdelay check "$NETLISTS"/c17.v c
   exact 3
@@ -303,28 +303,12 @@ and say no question, those of `lead` have leaves by edges and so say it.
   $ tdelay worst "$NETLISTS"/c17.v --strategy lead --workers 2 --cert c | grep exact; tdelay check "$NETLISTS"/c17.v c
   exact 3
   accepted 3
-  default 1 1
-  output all
-  first .....
-  second .....
-  hold .....
-  flips 5
-  at 0 0 0 0 0
-  keep none
   $ tdelay worst reconvergent.v --strategy least --workers 2 --cert c | grep exact; tdelay check reconvergent.v c
   exact 3
   accepted 3
   $ tdelay worst reconvergent.v --strategy lead --workers 2 --cert c | grep exact; tdelay check reconvergent.v c
   exact 3
   accepted 3
-  default 1 1
-  output all
-  first ..
-  second ..
-  hold ..
-  flips 2
-  at 0 0
-  keep none
 
 Why the pair that is found is that late.
 

@@ -7,14 +7,14 @@ Help and the version go to standard output. A line with a dot alone stands for a
   .
   Commands:
     sim    Simulates one pair of vectors: when each output changes last
-    path   Tells why an output changes last when it does: the changes that lead there from an input
+    path   Shows why an output changes last when it does: the changes that lead there from an input
     bound  Bounds the delay of all pairs of vectors that two patterns allow
     worst  Searches for the worst delay of the admitted pairs of vectors, and a pair that has it
     parts  Cuts the question of `worst` into parts, and prints the options with which `worst`
            answers each
     join   Joins the certificates of a question's parts into one of the whole question
     check  Checks the certificate of a worst delay by the netlist alone, whoever wrote it
-    info   Tells what is in a netlist: its size, its depth, its delays, and its inputs in the order
+    info   Prints what is in a netlist: its size, its depth, its delays, and its inputs in the order
            of a vector's characters
     help   Print this message or the help of the given subcommand(s)
   .
@@ -38,14 +38,14 @@ Help and the version go to standard output. A line with a dot alone stands for a
   FILE may be `-` for standard input.
   Standard output has one figure a line, a key and its value: docs/MANUAL.md.
   With `--json` it has one JSON object with these keys.
-  With `--hints`, or at a terminal, a command that is refused says on standard error what to do, too.
+  With `--hints`, or at a terminal, a refused command also prints to standard error what to do.
   .
   Exit status:
     0  done
     1  the text of the netlist or of a certificate is refused, or no pair is admitted
     2  the command line is bad, or a vector on it
     3  the search was cut short: the worst delay lies between two figures
-    4  the certificate is refused, that of a part with `join --check`, or they can't be joined
+    4  a certificate is refused, or certificates can't be joined
     5  a device failed, or memory ran out
   $ tdelay sim --help | sed 's/^$/./'
   Simulates one pair of vectors: when each output changes last
@@ -55,24 +55,24 @@ Help and the version go to standard output. A line with a dot alone stands for a
   Arguments:
     <FILE>  The netlist, a path, or `-` or `stdin` for standard input
     <FROM>  The first vector: 0, 1 or x for each input in the order that `info`
-            shows, or `none` where there are no inputs
-    <TO>    The second vector, which the inputs take from moment 0 or those of
+            shows, or `none` if there are no inputs
+    <TO>    The second vector, which the inputs take from time 0 or those of
             --at on
   .
   Options:
-        --at <MOMENTS>      When each input takes its second level: a number of steps for each in
-                            order, separated by commas; all 0 where left out. Or NAME=M, the
-                            moment of the input of this name, any number of times
+        --at <TIMES>        When each input takes its second level: a number of steps for each in
+                            order, separated by commas; all 0 if left out. Or NAME=T, the
+                            time of the input of this name, as often as needed
         --vcd <OUT>         Writes the waves of the pair to this file, as a value change dump
         --outputs           After the other lines, which output changes last, the first of
                             several: `output NAME`
         --default-rise <N>  Rise delay in steps of gates without a delay [default: 1]
         --default-fall <N>  Fall delay in steps of gates without a delay [default: 1]
-        --hints             After the line of a refusal, says on standard error what it means and
-                            what to do, as it does at a terminal
+        --hints             After the line of a refusal, prints to standard error what it means and
+                            what to do, as at a terminal
         --json              Prints the report as one JSON object, which has the keys of the
                             report's lines
-    -q, --quiet             Prints no report: the exit status says how the command ended
+    -q, --quiet             Prints no report: the exit status shows how the command ended
     -h, --help              Print help
   .
   Example:
@@ -151,7 +151,7 @@ What `join` says of the first pattern isn't what the other commands say of their
 
   $ tdelay join --help | grep -A2 -e '--first'
         --first <TRITS>     The first vector of the whole question: 0, 1 or . (free) for each
-                            input in the order that `info` shows; all free where only --second is
+                            input in the order that `info` shows; all free if only --second is
                             given, and without both as the parts together have it
 
 No line of help is wider than 100 columns.

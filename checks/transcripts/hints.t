@@ -74,7 +74,7 @@ Each fault of a netlist's text.
   $ bash body.sh $'/* open'
   tdelay: netlist fault 2 UnexpectedEnd at line 6
   t.v:6: the text ends inside a comment, an attribute, a directive or the module, or has no module
-    help: close it; where the file is empty or cut off, fetch it again
+    help: close it; if the file is empty or cut off, fetch it again
   [1]
   $ bash body.sh $'not (y);'
   tdelay: netlist fault 3 Syntax at line 4
@@ -173,13 +173,13 @@ Each way to leave the subset.
   tdelay: netlist fault 4 OutOfSubset at line 4 (tri)
   t.v:4: tri: high impedance, a wired net or a switch
       tri w;
-    help: say it by gates: no net has the level z
+    help: write it as gates: no net has the level z
   [1]
   $ bash body.sh "bufif1 (y, a, a);"
   tdelay: netlist fault 4 OutOfSubset at line 4 (bufif1)
   t.v:4: bufif1: high impedance, a wired net or a switch
       bufif1 (y, a, a);
-    help: say it by gates: no net has the level z
+    help: write it as gates: no net has the level z
   [1]
   $ bash body.sh "wire (strong0, pull1) w;"
   tdelay: netlist fault 4 OutOfSubset at line 4 (()
@@ -410,12 +410,12 @@ Files that can't be read or written.
   [5]
   $ tdelay worst inverter.v --cert /dev/full --hints 2>&1 | tail -n +7
   tdelay: cannot write /dev/full
-  a write failed, or memory ran out: the line above says which
+  a write failed, or memory ran out: see the line above
     help: a write: look at the room on the disk (df) and at who may write there; what had the name is as it was
     help: memory: give it more, or a smaller netlist or --budget
   $ tdelay sim inverter.v 0 1 --hints > /dev/full
   tdelay: cannot write stdout
-  a write failed, or memory ran out: the line above says which
+  a write failed, or memory ran out: see the line above
     help: a write: look at the room on the disk (df) and at who may write there; what had the name is as it was
     help: memory: give it more, or a smaller netlist or --budget
   [5]
@@ -455,11 +455,11 @@ What came from standard input can't be read again.
 
   $ tdelay info - --hints < two.v
   tdelay: netlist fault 11 TwoDrivers at line 5
-  what came from standard input or a pipe can't be read again to say more
+  what came from standard input or a pipe can't be read again to explain more
     help: save it in a file, and give the file's name
   [1]
   $ tdelay info <(cat two.v) --hints 2>&1 | tail -n +2
-  what came from standard input or a pipe can't be read again to say more
+  what came from standard input or a pipe can't be read again to explain more
     help: save it in a file, and give the file's name
   $ tdelay check two.v - --hints < two.v
   tdelay: netlist fault 11 TwoDrivers at line 5
@@ -494,7 +494,7 @@ Each fault of a certificate's text.
   $ sed 's/1$/9/' head | cat - tail > c; tdelay check inverter.v c --hints
   tdelay: certificate fault 5 Version at line 1
   c:1: a version of certificates that this program doesn't know
-    help: tdelay --version says which it reads: take the program that made it, or a newer one
+    help: tdelay --version prints which it reads: take the program that made it, or a newer one
   [1]
   $ : > c; tdelay check inverter.v c --hints
   tdelay: certificate fault 2 UnexpectedEnd at line 1
@@ -547,14 +547,14 @@ Each verdict but for `Accepted`.
   [4]
   $ bash hint.sh hidden.v 'tdelay-cert 2/circuit 2 4/first ../second ../hold ../flips 1/time 5/from 01/to 11/s 0/s 1/none/s 2/s 3/b a 0/none/b a 5/b a 5/'
   refused 9 LeafNotEmpty line 12
-  c:12: a leaf says that no admitted pair lies in its cube, and one does
+  c:12: a leaf claims that no admitted pair lies in its cube, but one does
     help: the certificate is wrong: search again
   [4]
 
   $ bash hint.sh inverter.v 'tdelay-cert 4/circuit 1 1/default 1 2/output all/first ./second ./hold ./flips 1/at 0/keep none/time 3/high 3/from 0/to 1/b a 3/'
   refused 11 OtherQuestion line 3
   c:3: it is about other default delays, or about other outputs
-    help: give the --default-rise, --default-fall and --output of its search: its line tells them
+    help: give the --default-rise, --default-fall and --output of its search: its line has them
   [4]
 
 Each reason for the verdict `BadStep`.
@@ -650,7 +650,7 @@ Each reason why certificates aren't joined.
     help: one of them is of another question: search it again with the options that `parts` printed
   [4]
   $ tdelay join and.v low other_moments --hints
-  tdelay: cannot join low and other_moments: other moments
+  tdelay: cannot join low and other_moments: other input times
   low and other_moments: the two are of questions with another --at
     help: one of them is of another question: search it again with the options that `parts` printed
   [4]
@@ -676,7 +676,7 @@ Each reason why certificates aren't joined.
   [4]
   $ tdelay join and.v low empty --hints
   tdelay: empty: a leaf without a pair
-  empty: a leaf of it says that no pair lies in its cube, where all pairs are admitted
+  empty: a leaf of it claims that no pair lies in its cube, but all pairs are admitted
     help: the certificate is wrong: search that part again
   [4]
   $ tdelay join and.v low and.v --hints

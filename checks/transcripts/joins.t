@@ -59,7 +59,7 @@ Certificates of other circuits and of other questions.
   4
   tdelay: cannot join low and other_flips: other flips
   4
-  tdelay: cannot join low and other_moments: other moments
+  tdelay: cannot join low and other_moments: other input times
   4
 
 Pins that aren't a part of those of the whole, and pins of another number of inputs.

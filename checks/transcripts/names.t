@@ -160,19 +160,19 @@ They are merged with options by place.
   second 1111..
   hold ......
   $ tdelay worst bus.v --pin a=1 --first ....0.
-  tdelay: pin a=1: another word says something else of input a
+  tdelay: pin a=1: another argument differs for input a
   [2]
   $ tdelay worst bus.v --pin a=1 --second ....0.
-  tdelay: pin a=1: another word says something else of input a
+  tdelay: pin a=1: another argument differs for input a
   [2]
   $ tdelay worst bus.v --pin a=1 --pin a=0
-  tdelay: pin a=0: another word says something else of input a
+  tdelay: pin a=0: another argument differs for input a
   [2]
   $ tdelay worst bus.v --pin v=0 --pin 'v[1]=1'
-  tdelay: pin v[1]=1: another word says something else of input v[1]
+  tdelay: pin v[1]=1: another argument differs for input v[1]
   [2]
   $ tdelay worst bus.v --pin 'v[1]=1' --pin v=0
-  tdelay: pin v=0: another word says something else of input v[1]
+  tdelay: pin v=0: another argument differs for input v[1]
   [2]
 
 Moments by name; the others are 0.
@@ -203,19 +203,19 @@ Moments by name; the others are 0.
   $ tdelay parts bus.v --parts 1 --at a=1
   --first ...... --second ...... --at 0,0,0,0,1,0
   $ tdelay worst bus.v --at a=1 --at a=2
-  tdelay: moment a=2: another word says something else of input a
+  tdelay: time a=2: another argument differs for input a
   [2]
   $ tdelay worst bus.v --at a=1 --at 0,0,0,0,0,0
   tdelay: --at by name and by place
   [2]
   $ tdelay worst bus.v --at a=1000000001
-  tdelay: bad moment a=1000000001
+  tdelay: bad time a=1000000001
   [2]
   $ tdelay worst bus.v --at a=
-  tdelay: bad moment a=
+  tdelay: bad time a=
   [2]
   $ tdelay worst bus.v --at 0,0,0,0,0,0 --at 0,0,0,0,0,1
-  error: the argument '--at <MOMENTS>' cannot be used multiple times
+  error: the argument '--at <TIMES>' cannot be used multiple times
   
   Usage: tdelay worst [OPTIONS] <FILE>
   
@@ -414,19 +414,19 @@ Hints say which inputs there are, and what a word has to be.
     help: a number fits the vector's bits, as 10 or 8'hff, and is below 2 to the power of 64
   [2]
   $ tdelay worst bus.v --at a=x --hints
-  tdelay: bad moment a=x
+  tdelay: bad time a=x
   --at has a name, = and a whole number of steps, at most 1000000000
     help: write it as a=3, once for each input
   [2]
   $ tdelay worst bus.v --pin a=1 --pin a=0 --hints
-  tdelay: pin a=0: another word says something else of input a
-  two words say something different of one input
+  tdelay: pin a=0: another argument differs for input a
+  two arguments give one input different values
     help: remove one of them, or make them equal
   [2]
   $ tdelay worst bus.v --at a=1 --at 0,0,0,0,0,0 --hints
   tdelay: --at by name and by place
-  --at has a number for each input by place, or NAME=M for one by name
-    help: give all moments in one of the two forms
+  --at has a number for each input by place, or NAME=T for one by name
+    help: give all times in one of the two forms
   [2]
   $ tdelay worst - --pin a=1 --hints < bus.v
   tdelay: inputs by name need a netlist in a file

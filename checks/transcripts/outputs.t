@@ -107,14 +107,7 @@ The netlist with one output: bounds, a search, its certificate, and parts of it.
   output y
   $ tdelay check two.v y.cert --output y
   accepted 2
-  default 1 1
   output 0
-  first ..
-  second ..
-  hold ..
-  flips 2
-  at 0 0
-  keep none
   $ tdelay check two.v y.cert
   refused 11 OtherQuestion line 4
   [4]
@@ -135,14 +128,7 @@ The netlist with one output: bounds, a search, its certificate, and parts of it.
   nodes 7
   $ tdelay check two.v all.cert --output y
   accepted 2
-  default 1 1
   output 0
-  first ..
-  second ..
-  hold ..
-  flips 2
-  at 0 0
-  keep none
   $ tdelay join two.v 1.cert 2.cert --check
   tdelay: 1.cert: refused 11 OtherQuestion line 4
   [4]

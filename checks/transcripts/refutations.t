@@ -321,14 +321,7 @@ What is accepted is said with its question.
 
   $ printf '%b' 'tdelay-cert 4\ncircuit 1 2\ndefault 1 1\noutput all\nfirst 0\nsecond .\nhold .\nflips 1\nat 0\nkeep none\ntime 2\nhigh 2\nfrom 0\nto 1\nx\ni 2\nu 1\nq 2\n' > c; tdelay check early.v c
   accepted 2
-  default 1 1
-  output all
   first 0
-  second .
-  hold .
-  flips 1
-  at 0
-  keep none
 
 The texts of such leaves: one letter, then numbers.
 
@@ -456,14 +449,6 @@ Parts of which one has a leaf by spans are joined into one of version 4, the lea
   q 4
   $ tdelay check early.v whole
   accepted 4
-  default 1 1
-  output all
-  first .
-  second .
-  hold .
-  flips 1
-  at 0
-  keep none
 
 With `--check` each part's steps are looked at, without it they aren't.
 

@@ -56,7 +56,7 @@ fn is_input(name: &str) -> bool {
 
 /// Appends that what came from standard input or a pipe can't be looked at again.
 fn from_stream(text: &mut Text) -> Result<(), AllocError> {
-    text.push(b"what came from standard input or a pipe can't be read again to say more")?;
+    text.push(b"what came from standard input or a pipe can't be read again to explain more")?;
     help(text, b"save it in a file, and give the file's name")
 }
 

@@ -32,12 +32,12 @@ fn about_word(text: &mut Text, fault: WordFault<'_>, labels: &[Label]) -> Result
         WordFault::Bad(topic, _) => bad(text, topic),
         WordFault::NoInput(name) => no_input(text, name, labels),
         WordFault::Clash(..) => {
-            text.push(b"two words say something different of one input")?;
+            text.push(b"two arguments give one input different values")?;
             help(text, b"remove one of them, or make them equal")
         }
         WordFault::TwoForms => {
-            text.push(b"--at has a number for each input by place, or NAME=M for one by name")?;
-            help(text, b"give all moments in one of the two forms")
+            text.push(b"--at has a number for each input by place, or NAME=T for one by name")?;
+            help(text, b"give all times in one of the two forms")
         }
     }
 }

@@ -159,7 +159,7 @@ fn not_joined(text: &mut Text, fault: &JoinFault<&str>) -> Result<(), AllocError
 
 /// Appends what to do where a write fails, or where memory runs out after the answer.
 pub(crate) fn not_written(text: &mut Text) -> Result<(), AllocError> {
-    text.push(b"a write failed, or memory ran out: the line above says which")?;
+    text.push(b"a write failed, or memory ran out: see the line above")?;
     help(
         text,
         b"a write: look at the room on the disk (df) and at who may write there; what had the name is as it was",

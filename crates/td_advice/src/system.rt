@@ -69,7 +69,7 @@ impl<'r, R: rt::Files> System<'r, R> {
         }
         match fs::metadata(self.rt, parent.as_str()) {
             Ok(known) if known.is_dir() => None,
-            Ok(_file) => Some(b"what stands for its folder is none"),
+            Ok(_file) => Some(b"its folder is a file"),
             Err(error) if error.kind() == ErrorKind::NotFound => Some(b"there is no such folder"),
             Err(error) => Some(sentence(error.kind())),
         }

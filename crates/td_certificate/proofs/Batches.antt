@@ -283,3 +283,8 @@ head_begins a c batch e = subst (λ (t : List ℕ). SentTo a a t batch) (e ∙ u
 
 pub all_sent : (a b : Output) (c : Certificate) (count : ℕ) → length c.tree ≤ count → Sent a b (up_to c count) → Sent a b (spelling c)
 all_sent a b c count le p = subst (λ (t : List ℕ). Sent a b t) (up_to-all c count le) p
+
+-- eight texts, the first two put at the end together, and then one after the other
+pub eight_pushed : (old t u v w x y new a b c d e f g h : List ℕ) → t ≡ old ++ (a ++ b) → u ≡ t ++ c → v ≡ u ++ d → w ≡ v ++ e → x ≡ w ++ f → y ≡ x ++ g → new ≡ y ++ h
+    → new ≡ old ++ (a ++ (b ++ (c ++ (d ++ (e ++ (f ++ (g ++ (h ++ []))))))))
+eight_pushed old t u v w x y new a b c d e f g h is_t is_u is_v is_w is_x is_y is = rw (is, is_y, is_x, is_w, is_v, is_u, is_t) (simp (append_assoc, append-nil))

@@ -7,6 +7,7 @@ pub mod Trees
 pub mod Text
 pub mod Questions
 pub mod Spelling
+pub mod Plain
 pub mod Kinds
 pub mod Faults
 pub mod Reading

@@ -9,6 +9,7 @@ mod fault;
 mod fields;
 pub mod laws;
 mod lines;
+mod plain;
 mod question;
 mod reading;
 mod refuting;
@@ -18,6 +19,7 @@ mod writing;
 
 pub use certificate::Certificate;
 pub use fault::{CertFault, CertFaultKind, WriteFault};
+pub use plain::push_reported;
 pub use question::{Question, Terms, Version};
 pub use reading::read;
 pub use refuting::{Refuted, Steps};

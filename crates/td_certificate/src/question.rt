@@ -161,7 +161,7 @@ fn plain_version(admit: &Admit, moments: &[u64]) -> Version
 }
 
 /// Whether all inputs change at moment 0.
-fn is_at_once(moments: &[u64]) -> bool
+pub fn is_at_once(moments: &[u64]) -> bool
     ensures { result ≡ is_at_once moments.now }
 {
     moments.iter().all(|moment| *moment == 0)

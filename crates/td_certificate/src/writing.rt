@@ -45,7 +45,7 @@ fn side(second: bool) -> usize
 
 /// Puts a character for each first bit of the inputs at the end, or for each second bit, or `none`.
 #[tactic(auto, using(crate::proofs::Batches::none_pushed))]
-fn push_trits(text: &mut String, pins: &Cube, second: bool) -> Result<(), AllocError>
+pub fn push_trits(text: &mut String, pins: &Cube, second: bool) -> Result<(), AllocError>
     ensures { OnOk result (string_bytes text.new ≡ string_bytes text.old ++ row trit (if second then second_trits pins.now else first_trits pins.now)) }
 {
     if pins.len() < 2 {
@@ -58,7 +58,7 @@ fn push_trits(text: &mut String, pins: &Cube, second: bool) -> Result<(), AllocE
 }
 
 /// Puts a character for each input at the end, which tells whether it is held.
-fn push_holds(text: &mut String, held: &[bool]) -> Result<(), AllocError>
+pub fn push_holds(text: &mut String, held: &[bool]) -> Result<(), AllocError>
     ensures { OnOk result (string_bytes text.new ≡ string_bytes text.old ++ row hold held.now) }
 {
     if held.is_empty() {
@@ -87,7 +87,7 @@ fn push_admit(text: &mut String, question: &Question) -> Result<(), AllocError>
 }
 
 /// Puts a line of a word and numbers at the end, a space before each, or `none`.
-fn push_listed(text: &mut String, word: &str, listed: &[u64]) -> Result<(), AllocError>
+pub fn push_listed(text: &mut String, word: &str, listed: &[u64]) -> Result<(), AllocError>
     ensures { OnOk result (string_bytes text.new ≡ string_bytes text.old ++ ended (word.now ++ (codes " " ++ numbers listed.now))) }
 {
     text.push_str(word)?;
@@ -165,7 +165,7 @@ fn push_condition(text: &mut String, condition: NamedCondition) -> Result<(), Al
 }
 
 /// Puts the line `keep` at the end.
-fn push_keep(text: &mut String, keep: &[NamedCondition]) -> Result<(), AllocError>
+pub fn push_keep(text: &mut String, keep: &[NamedCondition]) -> Result<(), AllocError>
     ensures { OnOk result (string_bytes text.new ≡ string_bytes text.old ++ ended (codes "keep " ++ conditions keep.now)) }
 {
     text.push_str("keep")?;
@@ -181,7 +181,7 @@ fn push_keep(text: &mut String, keep: &[NamedCondition]) -> Result<(), AllocErro
 }
 
 /// Puts the line `output` at the end.
-fn push_outputs(text: &mut String, terms: &Terms) -> Result<(), AllocError>
+pub fn push_outputs(text: &mut String, terms: &Terms) -> Result<(), AllocError>
     ensures { OnOk result (string_bytes text.new ≡ string_bytes text.old ++ ended (output_line terms.now)) }
 {
     match &terms.outputs {
@@ -190,13 +190,20 @@ fn push_outputs(text: &mut String, terms: &Terms) -> Result<(), AllocError>
     }
 }
 
+/// Puts the line `default` at the end.
+pub fn push_default(text: &mut String, terms: &Terms) -> Result<(), AllocError>
+    ensures { OnOk result (string_bytes text.new ≡ string_bytes text.old ++ ended (default_line terms.now)) }
+{
+    let rise = terms.rise;
+    let fall = terms.fall;
+    writeln!(text, "default {rise} {fall}")
+}
+
 /// Puts the lines `default` and `output` at the end.
 fn push_told(text: &mut String, terms: &Terms) -> Result<(), AllocError>
     ensures { OnOk result (string_bytes text.new ≡ string_bytes text.old ++ (ended (default_line terms.now) ++ ended (output_line terms.now))) }
 {
-    let rise = terms.rise;
-    let fall = terms.fall;
-    writeln!(text, "default {rise} {fall}")?;
+    push_default(text, terms)?;
     push_outputs(text, terms)
 }
 

@@ -240,7 +240,7 @@ impl<'a> Arguments<'a> {
     fn quiet(&mut self) -> Result<(), AllocError>
         ensures { OnOk result (TellsRule (with_letter quiet_letter (flag (codes "quiet"))) self.old self.new) }
     {
-        let help = "Prints no report: the exit status says how the command ended";
+        let help = "Prints no report: the exit status shows how the command ended";
         let quiet = flag(self.alloc, "quiet", help);
         self.add(quiet.short('q'))
     }
@@ -253,8 +253,8 @@ impl<'a> Arguments<'a> {
         self.default_delay()?;
         self.flag(
             "hints",
-            "After the line of a refusal, says on standard error what it means and\n\
-what to do, as it does at a terminal",
+            "After the line of a refusal, prints to standard error what it means and\n\
+what to do, as at a terminal",
         )?;
         self.flag(
             "json",
@@ -270,10 +270,10 @@ report's lines",
     {
         self.option(
             "at",
-            "MOMENTS",
+            "TIMES",
             "When each input takes its second level: a number of steps for each in\n\
-order, separated by commas; all 0 where left out. Or NAME=M, the\n\
-moment of the input of this name, any number of times",
+order, separated by commas; all 0 if left out. Or NAME=T, the\n\
+time of the input of this name, as often as needed",
         )
     }
 
@@ -321,11 +321,11 @@ line for each: its worst delay, and its bound by edges",
         self.needed(
             "FROM",
             "The first vector: 0, 1 or x for each input in the order that `info`\n\
-shows, or `none` where there are no inputs",
+shows, or `none` if there are no inputs",
         )?;
         self.needed(
             "TO",
-            "The second vector, which the inputs take from moment 0 or those of\n\
+            "The second vector, which the inputs take from time 0 or those of\n\
 --at on",
         )
     }
@@ -338,7 +338,7 @@ shows, or `none` where there are no inputs",
         self.option(
             "second",
             "TRITS",
-            "The second vector, which the inputs take from moment 0 or those of\n\
+            "The second vector, which the inputs take from time 0 or those of\n\
 --at on",
         )?;
         self.named(
@@ -388,7 +388,7 @@ nodes handled pass 1, 2, 5, 10, 20, .. thousand, and every ten seconds",
             "hold",
             "MASK",
             "The inputs whose two levels are the same: = (held) or . for each in\n\
-order; none held where left out",
+order; none held if left out",
         )?;
         self.named(
             "hold-input",
@@ -398,7 +398,7 @@ times",
         )?;
         self.count(
             "flips",
-            "The most inputs whose two levels differ; any number of them where left\n\
+            "The most inputs whose two levels differ; any number of them if left\n\
 out",
         )
     }

@@ -86,7 +86,7 @@ impl<'a> Commands<'a> {
         arguments.common()?;
         self.add(
             "path",
-            "Tells why an output changes last when it does: the changes that lead there from an input",
+            "Shows why an output changes last when it does: the changes that lead there from an input",
             PATH_HELP,
             arguments,
         )
@@ -190,7 +190,7 @@ answers each",
         arguments.common()?;
         self.add(
             "info",
-            "Tells what is in a netlist: its size, its depth, its delays, and its inputs in the order\n\
+            "Prints what is in a netlist: its size, its depth, its delays, and its inputs in the order\n\
 of a vector's characters",
             INFO_HELP,
             arguments,

@@ -18,5 +18,5 @@ advice kind.Syntax = codes "make or fetch the certificate again; docs/CERTIFICAT
 advice kind.UnexpectedEnd = codes "make or fetch the certificate again: it is empty or cut off; a search that ends as between has none"
 advice kind.Trailing = codes "a file has one certificate; join makes one of several"
 advice kind.NumberTooLarge = codes "make or fetch the certificate again"
-advice kind.Version = codes "tdelay --version says which it reads: take the program that made it, or a newer one"
+advice kind.Version = codes "tdelay --version prints which it reads: take the program that made it, or a newer one"
 advice kind.TooLong = codes "cut the question into parts and check the certificates of these: see docs/MANY-MACHINES.md"

@@ -16,7 +16,7 @@ sentence (fault.Outside one) = codes "its pins aren't a part of those of the who
 sentence (fault.Overlap one other) = codes "an admitted pair lies in both"
 sentence (fault.Crossed one other) = codes "both lie in a cube that no bit halves so that each part lies in one of the halves"
 sentence (fault.Gap one) = codes "a part is missing: admitted pairs lie in no certificate"
-sentence (fault.FalseNone one) = codes "a leaf of it says that no pair lies in its cube, where all pairs are admitted"
+sentence (fault.FalseNone one) = codes "a leaf of it claims that no pair lies in its cube, but all pairs are admitted"
 
 abbrev pub advice : {P : Type 0} → JoinFault P → List ℕ
 advice fault.OutOfMemory = codes "give it more memory"

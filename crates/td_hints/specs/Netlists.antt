@@ -26,7 +26,7 @@ abbrev pub leaving_advice : Leaving → List ℕ
 leaving_advice way.Cell = codes "a cell instance: map it to gate primitives, see docs/FROM-RTL.md; a delay: write it as a number"
 leaving_advice way.Behaviour = codes "synthesise it to gates: see docs/FROM-RTL.md"
 leaving_advice way.Module = codes "flatten the design into one module: see docs/FROM-RTL.md"
-leaving_advice way.Undriving = codes "say it by gates: no net has the level z"
+leaving_advice way.Undriving = codes "write it as gates: no net has the level z"
 leaving_advice way.Strength = codes "leave it out: a net has one driver"
 leaving_advice way.NetDelay = codes "put a buf with this delay into the net"
 leaving_advice way.ThirdDelay = codes "leave it out: a gate has a rise and a fall delay"
@@ -62,7 +62,7 @@ IsSentence (kind.OutOfSubset token) text = (left : Leaving) × (text ≡ leaving
 abbrev pub IsAdvice : FaultKind → List ℕ → Type 0
 IsAdvice kind.OutOfMemory text = text ≡ codes "give it more memory, or a smaller netlist"
 IsAdvice kind.BadByte text = text ≡ codes "rename the net, or save the text as ASCII"
-IsAdvice kind.UnexpectedEnd text = text ≡ codes "close it; where the file is empty or cut off, fetch it again"
+IsAdvice kind.UnexpectedEnd text = text ≡ codes "close it; if the file is empty or cut off, fetch it again"
 IsAdvice kind.Syntax text = text ≡ codes "mend the line; a comma or a semicolon is often missing before it"
 IsAdvice kind.ZeroDelay text = text ≡ codes "give it 1 step at least, or leave it out and choose --default-rise and --default-fall"
 IsAdvice kind.DelayTooFine text = text ≡ codes "give `timescale a shorter step, or round the delay"

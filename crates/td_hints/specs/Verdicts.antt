@@ -20,7 +20,7 @@ sentence (verdict.BadPosition one) = codes "a split at a position that doesn't e
 sentence (verdict.NotAPoint one) = codes "a leaf of one pair where a bit is still free"
 sentence verdict.OtherCircuit = codes "it is of a circuit with another number of inputs or gates"
 sentence verdict.PairNotAdmitted = codes "its pair isn't one that its lines first, second, hold and flips admit"
-sentence (verdict.LeafNotEmpty one) = codes "a leaf says that no admitted pair lies in its cube, and one does"
+sentence (verdict.LeafNotEmpty one) = codes "a leaf claims that no admitted pair lies in its cube, but one does"
 sentence (verdict.BadStep line reason) = flaw_sentence reason
 sentence (verdict.OtherQuestion one) = codes "it is about other default delays, or about other outputs"
 
@@ -34,5 +34,5 @@ advice (verdict.NotAPoint one) = codes "the certificate is wrong: search again"
 advice verdict.OtherCircuit = codes "give the netlist that it was made for; `info` counts inputs and gates"
 advice verdict.PairNotAdmitted = codes "the certificate is wrong: search again"
 advice (verdict.LeafNotEmpty one) = codes "the certificate is wrong: search again"
-advice (verdict.OtherQuestion one) = codes "give the --default-rise, --default-fall and --output of its search: its line tells them"
+advice (verdict.OtherQuestion one) = codes "give the --default-rise, --default-fall and --output of its search: its line has them"
 advice (verdict.BadStep one other) = codes "check it with the netlist, the default delays and the --output that it was made for; else make it again"

@@ -35,7 +35,7 @@ pub fn advice(kind: CertFaultKind) -> &'static [u8]
         CertFaultKind::Trailing => b"a file has one certificate; join makes one of several",
         CertFaultKind::NumberTooLarge => b"make or fetch the certificate again",
         CertFaultKind::Version => {
-            b"tdelay --version says which it reads: take the program that made it, or a newer one"
+            b"tdelay --version prints which it reads: take the program that made it, or a newer one"
         }
         CertFaultKind::TooLong => {
             b"cut the question into parts and check the certificates of these: see docs/MANY-MACHINES.md"

@@ -31,7 +31,7 @@ pub fn sentence<P>(fault: &JoinFault<P>) -> &'static [u8]
         }
         JoinFault::Gap(_) => b"a part is missing: admitted pairs lie in no certificate",
         JoinFault::FalseNone(_) => {
-            b"a leaf of it says that no pair lies in its cube, where all pairs are admitted"
+            b"a leaf of it claims that no pair lies in its cube, but all pairs are admitted"
         }
     }
 }

@@ -132,7 +132,7 @@ impl Leaving {
             }
             Leaving::Behaviour => b"synthesise it to gates: see docs/FROM-RTL.md",
             Leaving::Module => b"flatten the design into one module: see docs/FROM-RTL.md",
-            Leaving::Undriving => b"say it by gates: no net has the level z",
+            Leaving::Undriving => b"write it as gates: no net has the level z",
             Leaving::Strength => b"leave it out: a net has one driver",
             Leaving::NetDelay => b"put a buf with this delay into the net",
             Leaving::ThirdDelay => b"leave it out: a gate has a rise and a fall delay",
@@ -188,7 +188,7 @@ pub fn advice(kind: FaultKind<'_>) -> &'static [u8]
     match kind {
         FaultKind::OutOfMemory => b"give it more memory, or a smaller netlist",
         FaultKind::BadByte => b"rename the net, or save the text as ASCII",
-        FaultKind::UnexpectedEnd => b"close it; where the file is empty or cut off, fetch it again",
+        FaultKind::UnexpectedEnd => b"close it; if the file is empty or cut off, fetch it again",
         FaultKind::Syntax => b"mend the line; a comma or a semicolon is often missing before it",
         FaultKind::ZeroDelay => {
             b"give it 1 step at least, or leave it out and choose --default-rise and --default-fall"

@@ -37,7 +37,7 @@ pub fn sentence(verdict: Verdict) -> &'static [u8]
             b"its pair isn't one that its lines first, second, hold and flips admit"
         }
         Verdict::LeafNotEmpty(_) => {
-            b"a leaf says that no admitted pair lies in its cube, and one does"
+            b"a leaf claims that no admitted pair lies in its cube, but one does"
         }
         Verdict::BadStep(_, flaw) => flaw_sentence(flaw),
         Verdict::OtherQuestion(_) => b"it is about other default delays, or about other outputs",
@@ -65,7 +65,7 @@ pub fn advice(verdict: Verdict) -> &'static [u8]
         Verdict::PairNotAdmitted => b"the certificate is wrong: search again",
         Verdict::LeafNotEmpty(_) => b"the certificate is wrong: search again",
         Verdict::OtherQuestion(_) => {
-            b"give the --default-rise, --default-fall and --output of its search: its line tells them"
+            b"give the --default-rise, --default-fall and --output of its search: its line has them"
         }
         Verdict::BadStep(_, _) => {
             b"check it with the netlist, the default delays and the --output that it was made for; else make it again"

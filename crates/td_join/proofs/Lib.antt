@@ -12,3 +12,4 @@ pub mod Widening
 pub mod Wholes
 pub mod Spelled
 pub mod Refused
+pub mod Conditions

@@ -24,7 +24,7 @@ pub enum JoinFault<P> {
     #[error("other flips")]
     OtherFlips(P, P),
     /// The two have other moments of the inputs.
-    #[error("other moments")]
+    #[error("other input times")]
     OtherMoments(P, P),
     /// The two tell other delays of gates that state none, or other outputs.
     #[error("other terms")]

@@ -19,10 +19,10 @@ status_of (Wrong fault labels) = BadCommand
 
 -- what a word of an option is called in messages
 abbrev pub called : Topic → List ℕ
-called First = codes "moment "
-called Second = codes "moment "
-called Hold = codes "moment "
-called At = codes "moment "
+called First = codes "time "
+called Second = codes "time "
+called Hold = codes "time "
+called At = codes "time "
 called Pin = codes "pin "
 called HoldInput = codes "held input "
 
@@ -40,7 +40,7 @@ unfoldable pub no_input_text : List ℕ → List ℕ
 no_input_text name = codes "no input " ++ name
 
 unfoldable pub clash_text : Topic → List ℕ → List ℕ → List ℕ
-clash_text topic word input = called topic ++ word ++ codes ": another word says something else of input " ++ input
+clash_text topic word input = called topic ++ word ++ codes ": another argument differs for input " ++ input
 
 abbrev pub fault_text : Fault → List Label → List ℕ
 fault_text (Bad topic word) labels = bad_text topic word

@@ -42,7 +42,7 @@ fn called(topic: Topic) -> &'static [u8]
     match topic {
         Topic::Pin => b"pin ",
         Topic::HoldInput => b"held input ",
-        _ => b"moment ",
+        _ => b"time ",
     }
 }
 
@@ -142,7 +142,7 @@ fn tell_clash(text: &mut Text, topic: Topic, word: &[u8], input: &[u8]) -> Resul
 {
     text.push(called(topic))?;
     text.push(word)?;
-    text.push(b": another word says something else of input ")?;
+    text.push(b": another argument differs for input ")?;
     text.push(input)
 }
 

@@ -2,7 +2,8 @@
 use Rattle.std.specs.Prelude.{◌≡◌, ℕ, List, [], ◌++◌, ◌==◌, codes, decimal, Option, Some, None, if◌then◌else◌}
 use Rattle.td_reading.specs.declared.reading.Reading.{Reading}
 use Rattle.td_certificate.specs.declared.certificate.Certificate.{Certificate}
-use Rattle.td_certificate.specs.Spelling.{Spells, version_in, question_text}
+use Rattle.td_certificate.specs.Plain.{reported_text}
+use Rattle.td_certificate.specs.Spelling.{Spells, version_in}
 use Rattle.td_checker.specs.declared.verdict.Verdict.{Verdict}
 use Rattle.td_checker.specs.declared.verdict.Verdict.TheVariants.{Accepted}
 use Rattle.td_checker.specs.Verdicts.{verdict_number, verdict_name, verdict_line}
@@ -19,9 +20,9 @@ accepted_line time high =
     else codes "accepted between " ++ decimal time ++ codes " " ++ decimal high ++ newline
 
 -- what a certificate that is accepted says, and the lines of its text that tell what it is about,
--- which the first version of the text hasn't
+-- which the first version of the text hasn't, and the fourth where they aren't plain
 abbrev pub accepted_text : Certificate → List ℕ
-accepted_text certificate = accepted_line certificate.time certificate.high ++ question_text (version_in certificate) certificate.question
+accepted_text certificate = accepted_line certificate.time certificate.high ++ reported_text (version_in certificate) certificate.question
 
 -- the line of the certificate's text that a verdict is about, where it is about one
 abbrev pub place_text : Option ℕ → List ℕ

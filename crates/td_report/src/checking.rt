@@ -1,7 +1,8 @@
 //! The command `check`: the verdict on a certificate.
 
 ghost use Rattle.std.specs.Prelude.{◌≡◌, ◌++◌, IfOk, IfErr, OnOk};
-ghost use Rattle.td_certificate.specs.Spelling.{version_in, question_text};
+ghost use Rattle.td_certificate.specs.Plain.{reported_text};
+ghost use Rattle.td_certificate.specs.Spelling.{version_in};
 ghost use Rattle.td_checker.specs.declared.verdict.Verdict.TheVariants as Reported;
 ghost use Rattle.td_report.specs.CheckReports.{accepted_line, accepted_text, refusing_text, refused_text, place_text, verdict_text, ending_of, IsCheckReport};
 ghost use Rattle.td_report.specs.Outcomes.{HasNoVerdict, refusal_of};
@@ -10,7 +11,7 @@ use crate::refusal::Refusal;
 use crate::status::Status;
 use crate::text::Text;
 use std::alloc::{AllocError, Global};
-use td_certificate::{Certificate, push_question};
+use td_certificate::{Certificate, push_reported};
 use td_checker::{CheckFault, Verdict, check_owned};
 use td_reading::Reading;
 
@@ -102,12 +103,18 @@ fn accepted_line(text: &mut Text, time: u64, high: u64) -> Result<(), AllocError
     text.number_between(b"", high, b"\n")
 }
 
-/// Appends the lines that tell what a certificate is about, as they stand in its text.
+/// Appends the lines that tell what a certificate is about, as they stand in its text: of the fourth
+/// version those that aren't plain.
 fn about(alloc: Global, text: &mut Text, certificate: &Certificate) -> Result<(), AllocError>
-    ensures { OnOk result (text.new ≡ text.old ++ question_text (version_in certificate.now) certificate.now.question) }
+    ensures { OnOk result (text.new ≡ text.old ++ reported_text (version_in certificate.now) certificate.now.question) }
 {
     let mut lines = String::new(alloc);
-    push_question(&mut lines, certificate.version(), &certificate.question)?;
+    push_reported(
+        alloc,
+        &mut lines,
+        certificate.version(),
+        &certificate.question,
+    )?;
     text.push(lines.as_bytes())
 }
 

@@ -66,7 +66,7 @@ pub fn tell_unjoined(text: &mut Text, fault: &JoinFault<&str>) -> Result<(), All
         JoinFault::OtherCircuit(one, other) => tell_two(text, one, other, b"other circuits"),
         JoinFault::OtherHold(one, other) => tell_two(text, one, other, b"other inputs held"),
         JoinFault::OtherFlips(one, other) => tell_two(text, one, other, b"other flips"),
-        JoinFault::OtherMoments(one, other) => tell_two(text, one, other, b"other moments"),
+        JoinFault::OtherMoments(one, other) => tell_two(text, one, other, b"other input times"),
         JoinFault::OtherTerms(one, other) => tell_two(text, one, other, b"other terms"),
         JoinFault::Open(one) => tell_one(text, one, b"open"),
         JoinFault::Outside(one) => tell_one(text, one, b"other pins"),

@@ -36,7 +36,7 @@ few_flips [] after = omega arith
 few_flips (a ∷ before) [] = omega arith
 few_flips (a ∷ before) (b ∷ after) = omega (arith, one_flip a b, few_flips before after)
 
-cap : (admit : Admitted) (pair : Pair) → length pair.first ≡ length admit.held → IsAdmitted admit pair → IsAdmitted (capped admit) pair
+pub cap : (admit : Admitted) (pair : Pair) → length pair.first ≡ length admit.held → IsAdmitted admit pair → IsAdmitted (capped admit) pair
 cap admit pair long is = record {
   pinned = is.pinned;
   held = is.held;

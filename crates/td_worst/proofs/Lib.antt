@@ -1,3 +1,5 @@
 pub mod Outcomes
 mod Leaves
+mod EdgeLeaves
+mod Edged
 mod Standings

@@ -1,7 +1,10 @@
 -- By which means the worst delay is searched for, and what its answer says.
-use Rattle.std.specs.Prelude.{ℕ, ◌<◌, ◌≤◌, ◌^◌}
+use Rattle.std.specs.Prelude.{◌≢◌, ℕ, ◌/◌, ◌<◌, ◌≤◌, ◌^◌, min, max, nat_lt, Bool, true, false, Some}
 use Rattle.td_domain.specs.Pairs.{Pair}
 use Rattle.td_domain.specs.Worst.{IsUpperBound, IsWorst}
+use Rattle.td_certificate.specs.declared.tree.BoundedBy.TheVariants.{Edges}
+use Rattle.td_certificate.specs.Accepts.{IsBoundBy}
+use Rattle.td_search.specs.declared.answers.Cause.TheVariants as cause
 use Rattle.td_search.specs.declared.strategy.Strategy.{Strategy}
 use Rattle.td_search.specs.declared.strategy.Strategy.TheVariants as strategy
 use Rattle.td_search.specs.declared.answers.Answer.{Answer}
@@ -40,6 +43,30 @@ IsAnswerBy method.Least asked budget found = IsAnswer asked budget found
 IsAnswerBy method.Lead asked budget found = IsAnswer asked budget found
 IsAnswerBy method.Refute asked budget found = IsSoundAnswer asked budget found
 IsAnswerBy method.Auto asked budget found = IsSoundAnswer asked budget found
+
+-- how many nodes `auto` gives its first tree, where a circuit has as many gates
+abbrev pub first_nodes : ℕ → ℕ
+first_nodes gates = max (min 10000 (60000 / max gates 1)) 1
+
+-- whether a method goes on after a first tree, or begins without one
+abbrev pub goes_further : Method → ℕ → ℕ → Bool
+goes_further method.Least gates budget = false
+goes_further method.Lead gates budget = false
+goes_further method.Refute gates budget = nat_lt 0 budget
+goes_further method.Auto gates budget = nat_lt (first_nodes gates) budget
+
+-- whether an answer isn't exact for its budget alone
+abbrev pub is_open : Answer → Bool
+is_open (answer.Exact time pair tree) = false
+is_open (answer.Between low high pair nodes cause.Budget) = true
+is_open (answer.Between low high pair nodes cause.Memory) = false
+is_open (answer.Between low high pair nodes cause.Time) = false
+
+-- The upper figure is at most the bound of the pins by edges, unless memory ran out.
+abbrev pub IsWithinEdges : Problem → Answer → Type 0
+IsWithinEdges asked (answer.Exact time pair tree) = Unit {0}
+IsWithinEdges asked (answer.Between low high pair nodes why) = (bound : ℕ) → IsBoundBy Edges asked.setting asked.admit.pins (Some bound)
+    → why ≢ cause.Memory → high ≤ bound
 
 -- the upper figure, or the time of an exact answer
 abbrev pub high_of : Answer → ℕ

@@ -2,6 +2,7 @@
 #![tactic(auto)]
 
 mod combining;
+mod edge_bound;
 mod fault;
 mod leaf;
 mod method;

@@ -1,13 +1,15 @@
 //! The search for the worst delay, by any means.
 
-ghost use Rattle.std.specs.Prelude.{◌≡◌, ◌<◌, ◌≤◌, ◌+◌, ℕ, length, IfOk, IfErr};
-ghost use Rattle.td_search.specs.Answers.{IsSearchFault, TimeNeedsStop};
+ghost use Rattle.std.specs.Prelude.{◌≡◌, true, min, max, ◌<◌, ◌≤◌, ◌+◌, ◌/◌, ℕ, length, IfOk, IfErr};
+ghost use Rattle.td_search.specs.Answers.{IsAnswer, IsSearchFault, TimeNeedsStop};
 ghost use Rattle.td_search.specs.Problems.{problem_by};
 ghost use Rattle.td_search.specs.declared.strategy.Strategy.TheVariants as strategy;
 ghost use Rattle.td_search.specs.Written.{CanBeWritten};
-ghost use Rattle.td_worst.specs.Methods.{tree_of, IsAnswerBy, IsSoundAnswer};
+ghost use Rattle.td_worst.specs.declared.method.Method.TheVariants as by_method;
+ghost use Rattle.td_worst.specs.Methods.{tree_of, first_nodes, goes_further, high_of, is_open, IsAnswerBy, IsSoundAnswer, IsWithinEdges};
 
 use crate::combining::combined;
+use crate::edge_bound::bounded_by_edges;
 use crate::method::Method;
 use crate::refuting::refuted_further;
 use std::alloc::Global;
@@ -65,6 +67,12 @@ pub fn worst_until<W: Watch, R: Threads + Wait + Sync>(
 ) -> Result<Answer, SearchFault>
     requires held { length admit.now.held ≡ length circuit.now.netlist.inputs }
     ensures answer { IfOk result (IsAnswerBy method (problem_by (tree_of method) circuit.now admit.now) limits.entry.effort.budget) }
+    // Where the budget ends with its first tree, `Auto` answers as `Least` does.
+    ensures first { method ≡ by_method.Auto → limits.entry.effort.budget ≤ first_nodes (length circuit.now.netlist.gates)
+        → IfOk result (IsAnswer (problem_by strategy.Least circuit.now admit.now) limits.entry.effort.budget) }
+    // Where it goes on, the upper figure is at most the bound by edges.
+    ensures edges { goes_further method (length circuit.now.netlist.gates) limits.entry.effort.budget ≡ true
+        → IfOk result (IsWithinEdges (problem_by (tree_of method) circuit.now admit.now)) }
     // The certificate of an exact answer has a text within the limit.
     ensures text { IfOk result (CanBeWritten (problem_by (tree_of method) circuit.now admit.now)) }
     // Time is a cause only where the stop can be set.
@@ -98,6 +106,7 @@ fn by_refutation<W: Watch, R: Threads + Wait + Sync>(
 ) -> Result<Answer, SearchFault>
     requires held { length admit.now.held ≡ length circuit.now.netlist.inputs }
     ensures answer { IfOk result (IsSoundAnswer (problem_by strategy.Lead circuit.now admit.now) limits.entry.effort.budget) }
+    ensures edges { 0 < limits.entry.effort.budget → IfOk result (IsWithinEdges (problem_by strategy.Lead circuit.now admit.now)) }
     ensures text { IfOk result (CanBeWritten (problem_by strategy.Lead circuit.now admit.now)) }
     ensures time { IfOk result (TimeNeedsStop limits.entry.stop.now.can_be_set) }
     ensures fault { IfErr result (IsSearchFault (problem_by strategy.Lead circuit.now admit.now)) }
@@ -115,6 +124,10 @@ fn by_refutation<W: Watch, R: Threads + Wait + Sync>(
         admit,
         strategy: Strategy::Lead,
     };
+    let known = bounded_by_edges(alloc, &problem, known, budget);
+    if !is_open(&known) {
+        return Ok(known);
+    }
     let further = with_work(limits, budget);
     Ok(refuted_further(rt, alloc, &problem, known, budget, further))
 }
@@ -156,6 +169,10 @@ fn by_all<W: Watch, R: Threads + Wait + Sync>(
 ) -> Result<Answer, SearchFault>
     requires held { length admit.now.held ≡ length circuit.now.netlist.inputs }
     ensures answer { IfOk result (IsSoundAnswer (problem_by strategy.Least circuit.now admit.now) limits.entry.effort.budget) }
+    ensures first { limits.entry.effort.budget ≤ first_nodes (length circuit.now.netlist.gates)
+        → IfOk result (IsAnswer (problem_by strategy.Least circuit.now admit.now) limits.entry.effort.budget) }
+    ensures edges { first_nodes (length circuit.now.netlist.gates) < limits.entry.effort.budget
+        → IfOk result (IsWithinEdges (problem_by strategy.Least circuit.now admit.now)) }
     ensures text { IfOk result (CanBeWritten (problem_by strategy.Least circuit.now admit.now)) }
     ensures time { IfOk result (TimeNeedsStop limits.entry.stop.now.can_be_set) }
     ensures fault { IfErr result (IsSearchFault (problem_by strategy.Least circuit.now admit.now)) }
@@ -172,7 +189,11 @@ fn by_all<W: Watch, R: Threads + Wait + Sync>(
     let first = with_nodes(limits, nodes);
     let known = search(rt, alloc, &problem, &Own, first, watch)?;
     let left = budget - nodes;
-    if left == 0 || !is_open(&known) {
+    if left == 0 {
+        return Ok(known);
+    }
+    let known = bounded_by_edges(alloc, &problem, known, nodes);
+    if !is_open(&known) {
         return Ok(known);
     }
     let more = nodes_of(circuit, SECOND, left / 2);
@@ -217,6 +238,7 @@ fn with_work(limits: Limits<'_>, work: u64) -> Refuting<'_>
 
 // How many of the nodes that are left a tree with this share has, one at least where one is left.
 fn nodes_of(circuit: &Circuit, share: Share, left: u64) -> u64
+    ensures is { result ≡ min (max (min share.nodes (share.gates / max (length circuit.now.netlist.gates) 1)) 1) left }
     ensures few { result ≤ left }
     ensures some { 0 < left → 0 < result }
 {
@@ -225,10 +247,15 @@ fn nodes_of(circuit: &Circuit, share: Share, left: u64) -> u64
 }
 
 // Whether an answer isn't exact for its budget alone.
-fn is_open(answer: &Answer) -> bool {
+fn is_open(answer: &Answer) -> bool
+    ensures { result ≡ is_open answer.now }
+{
     match answer {
         Answer::Exact { .. } => false,
-        Answer::Between { cause, .. } => *cause == Cause::Budget,
+        Answer::Between { cause, .. } => match cause {
+            Cause::Budget => true,
+            Cause::Memory | Cause::Time => false,
+        },
     }
 }
 
@@ -254,6 +281,7 @@ fn led_further<W: Watch, R: Threads + Wait + Sync>(
         → CanBeWritten (problem_by strategy.Least circuit.now admit.now) known
         → IsSoundAnswer (problem_by strategy.Least circuit.now admit.now) (budget + limits.entry.effort.budget) result
         × CanBeWritten (problem_by strategy.Least circuit.now admit.now) result }
+    ensures high { (budget : ℕ) → IsSoundAnswer (problem_by strategy.Least circuit.now admit.now) budget known → high_of result ≤ high_of known }
     ensures time { TimeNeedsStop limits.entry.stop.now.can_be_set known → TimeNeedsStop limits.entry.stop.now.can_be_set result }
     ensures reported { W.reported (problem_by strategy.Least circuit.now admit.now) watch.old watch.new }
 {

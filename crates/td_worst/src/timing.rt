@@ -1,10 +1,12 @@
 //! The search for the worst delay within a time.
 
-ghost use Rattle.std.specs.Prelude.{◌≡◌, true, length, is_some, IfOk, IfErr};
-ghost use Rattle.td_search.specs.Answers.{TimeNeedsStop};
+ghost use Rattle.std.specs.Prelude.{◌≡◌, ◌≤◌, true, length, is_some, IfOk, IfErr};
+ghost use Rattle.td_search.specs.declared.strategy.Strategy.TheVariants as strategy;
+ghost use Rattle.td_search.specs.Answers.{IsAnswer, TimeNeedsStop};
 ghost use Rattle.td_search.specs.Problems.{problem_by};
 ghost use Rattle.td_search.specs.Written.{CanBeWritten};
-ghost use Rattle.td_worst.specs.Methods.{tree_of, IsAnswerBy};
+ghost use Rattle.td_worst.specs.declared.method.Method.TheVariants as by_method;
+ghost use Rattle.td_worst.specs.Methods.{tree_of, first_nodes, goes_further, IsAnswerBy, IsWithinEdges};
 ghost use Rattle.td_worst.specs.Faults.{IsWorstFault};
 
 use crate::fault::WorstFault;
@@ -54,6 +56,12 @@ pub fn worst<W: Watch, R: Threads + Wait + Clock + Sync>(
 ) -> Result<Answer, WorstFault>
     requires held { length admit.now.held ≡ length circuit.now.netlist.inputs }
     ensures answer { IfOk result (IsAnswerBy method (problem_by (tree_of method) circuit.now admit.now) effort.effort.budget) }
+    // Where the budget ends with its first tree, `Auto` answers as `Least` does.
+    ensures first { method ≡ by_method.Auto → effort.effort.budget ≤ first_nodes (length circuit.now.netlist.gates)
+        → IfOk result (IsAnswer (problem_by strategy.Least circuit.now admit.now) effort.effort.budget) }
+    // Where it goes on, the upper figure is at most the bound by edges.
+    ensures edges { goes_further method (length circuit.now.netlist.gates) effort.effort.budget ≡ true
+        → IfOk result (IsWithinEdges (problem_by (tree_of method) circuit.now admit.now)) }
     // The certificate of an exact answer has a text within the limit.
     ensures text { IfOk result (CanBeWritten (problem_by (tree_of method) circuit.now admit.now)) }
     // Time is a cause only where seconds are given.
@@ -104,6 +112,10 @@ fn worst_within<W: Watch, R: Threads + Wait + Clock + Sync>(
 ) -> (Result<Answer, WorstFault>, W)
     requires held { length admit.now.held ≡ length circuit.now.netlist.inputs }
     ensures answer { IfOk result.0 (IsAnswerBy method (problem_by (tree_of method) circuit.now admit.now) timed.entry.limits.effort.budget) }
+    ensures first { method ≡ by_method.Auto → timed.entry.limits.effort.budget ≤ first_nodes (length circuit.now.netlist.gates)
+        → IfOk result.0 (IsAnswer (problem_by strategy.Least circuit.now admit.now) timed.entry.limits.effort.budget) }
+    ensures edges { goes_further method (length circuit.now.netlist.gates) timed.entry.limits.effort.budget ≡ true
+        → IfOk result.0 (IsWithinEdges (problem_by (tree_of method) circuit.now admit.now)) }
     ensures text { IfOk result.0 (CanBeWritten (problem_by (tree_of method) circuit.now admit.now)) }
     ensures fault { IfErr result.0 (IsWorstFault true (problem_by (tree_of method) circuit.now admit.now)) }
     ensures reported { W.reported (problem_by (tree_of method) circuit.now admit.now) watch result.1 }
@@ -120,6 +132,10 @@ fn worst_within<W: Watch, R: Threads + Wait + Clock + Sync>(
         |scope| -> (Result<Answer, WorstFault>, W)
             requires held { length admit.now.held ≡ length circuit.now.netlist.inputs }
             ensures answer { IfOk result.0 (IsAnswerBy method (problem_by (tree_of method) circuit.entry.now admit.entry.now) limits.entry.effort.budget) }
+            ensures first { method ≡ by_method.Auto → limits.entry.effort.budget ≤ first_nodes (length circuit.entry.now.netlist.gates)
+                → IfOk result.0 (IsAnswer (problem_by strategy.Least circuit.entry.now admit.entry.now) limits.entry.effort.budget) }
+            ensures edges { goes_further method (length circuit.entry.now.netlist.gates) limits.entry.effort.budget ≡ true
+                → IfOk result.0 (IsWithinEdges (problem_by (tree_of method) circuit.entry.now admit.entry.now)) }
             ensures text { IfOk result.0 (CanBeWritten (problem_by (tree_of method) circuit.entry.now admit.entry.now)) }
             ensures fault { IfErr result.0 (IsWorstFault true (problem_by (tree_of method) circuit.entry.now admit.entry.now)) }
             ensures reported { W.reported (problem_by (tree_of method) circuit.entry.now admit.entry.now) watch result.1 }
