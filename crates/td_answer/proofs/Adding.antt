@@ -1,0 +1,53 @@
+-- Reports that get more lines, and lists that get more elements.
+use Rattle.std.proofs.Common.{◌≡◌, ◌∙◌, ◌<◌, ◌+◌, ℕ, zero, suc, List, [], ◌∷◌, ◌++◌, length, take, drop, map, get_or, refl, sym, ap, arith, append_assoc, append-nil, Some}
+use Rattle.std.specs.Prelude.{slice_get}
+use Rattle.std.proofs.lemmas.List.{take_more, map-append}
+use Rattle.td_gates.proofs.Places.{some-same, slice_get-get}
+use Rattle.td_lines.specs.declared.line.Line.{Line}
+use Rattle.td_answer.specs.Additions.{AddsLines}
+
+-- ---- reports
+
+-- no line
+pub nothing : (Are : List Line → Type 0) (now : List Line) → Are [] → AddsLines Are now now
+nothing Are now are = ([], sym (append-nil now), are)
+
+-- these lines
+pub some : (Are : List Line → Type 0) (old new lines : List Line) → new ≡ old ++ lines → Are lines → AddsLines Are old new
+some Are old new lines added are = (lines, added, are)
+
+-- two kinds of lines, one after the other
+pub two : (One Other Both : List Line → Type 0) (old mid new : List Line) → ((first second : List Line) → One first → Other second → Both (first ++ second))
+    → AddsLines One old mid → AddsLines Other mid new → AddsLines Both old new
+two One Other Both old mid new join first second = (
+  first.0 ++ second.0,
+  second.1 ∙ ap (λ (lines : List Line). lines ++ second.0) first.1 ∙ append_assoc old first.0 second.0,
+  join first.0 second.0 first.2 second.2,
+)
+
+-- a text to which two were appended in turn
+pub two_pushed : (old front name first new : List ℕ) → first ≡ old ++ front → new ≡ first ++ name → new ≡ old ++ (front ++ name)
+two_pushed old front name first new is_first is_new = rw (is_new, is_first, append_assoc old front name) refl
+
+-- ---- lists
+
+-- one more element of a list, mapped
+pub map_more : {A B : Type 0} (f : A → B) (xs : List A) (i : ℕ) (x : A) → slice_get xs i ≡ Some x → i < length xs
+    → map f (take (i + 1) xs) ≡ map f (take i xs) ++ f x ∷ []
+map_more f xs i x at less =
+    ap (map f) (take_more xs i x less) ∙ map-append f (take i xs) (get_or xs i x ∷ [])
+    ∙ ap (λ y. map f (take i xs) ++ f y ∷ []) (slice_get-get xs i x x at)
+
+-- one more of what is mapped
+pub mapped_more : {A B : Type 0} (f : A → B) (xs : List A) (i : ℕ) (x : A) (sofar new : List B) (y : B) → slice_get xs i ≡ Some x → i < length xs
+    → sofar ≡ map f (take i xs) → y ≡ f x → new ≡ sofar ++ y ∷ [] → new ≡ map f (take (i + 1) xs)
+mapped_more f xs i x sofar new y at less before is added =
+    added ∙ ap (λ (ys : List _). ys ++ y ∷ []) before ∙ ap (λ z. map f (take i xs) ++ z ∷ []) is ∙ sym (map_more f xs i x at less)
+
+-- the first of what is left
+pub drop_next : {A : Type 0} (xs : List A) (i : ℕ) (x : A) → slice_get xs i ≡ Some x → drop i xs ≡ x ∷ drop (i + 1) xs
+drop_next [] i x at = absurd cc
+drop_next (first ∷ others) zero x at = (let same = some-same first x at in ap (λ y. y ∷ others) same)
+drop_next (first ∷ others) (suc i) x at =
+    let next : suc i + 1 ≡ suc (i + 1) = omega arith in
+    rw next (drop_next others i x at)
