@@ -51,3 +51,8 @@ drop_next (first ∷ others) zero x at = (let same = some-same first x at in ap 
 drop_next (first ∷ others) (suc i) x at =
     let next : suc i + 1 ≡ suc (i + 1) = omega arith in
     rw next (drop_next others i x at)
+
+-- the lines of seven kinds, one after the other
+pub seven_added : (old t u v w x y new a b c d e f g h : List Line) → t ≡ old ++ (a ++ b) → u ≡ t ++ c → v ≡ u ++ d → w ≡ v ++ e → x ≡ w ++ f → y ≡ x ++ g
+    → new ≡ y ++ h → new ≡ old ++ (a ++ (b ++ (c ++ (d ++ (e ++ (f ++ (g ++ (h ++ []))))))))
+seven_added old t u v w x y new a b c d e f g h is_t is_u is_v is_w is_x is_y is = rw (is, is_y, is_x, is_w, is_v, is_u, is_t) (simp (append_assoc, append-nil))

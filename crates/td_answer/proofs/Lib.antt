@@ -9,3 +9,4 @@ pub mod Zips
 pub mod Whole
 pub mod Cuts
 pub mod Keeping
+pub mod Writable

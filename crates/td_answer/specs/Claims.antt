@@ -6,7 +6,7 @@ use Rattle.td_certificate.specs.declared.question.Version.{Version}
 use Rattle.td_certificate.specs.declared.question.Version.TheVariants.{First, Second, Third, Fourth}
 use Rattle.td_certificate.specs.Questions.{Question}
 use Rattle.td_certificate.specs.Spelling.{Field, DefaultField, OutputField, FirstField, SecondField, HoldField, FlipsField, AtField, KeepField, fields_of, terms_of, version_in}
-use Rattle.td_certificate.specs.Plain.{is_plain}
+use Rattle.td_certificate.specs.Plain.{says_more}
 use Rattle.td_certificate.specs.Text.{row, trit, hold, conditions, first_trits, second_trits}
 use Rattle.td_lines.specs.declared.line.Line.{Line}
 use Rattle.td_lines.specs.declared.line.Line.TheVariants as line
@@ -35,7 +35,7 @@ field_line question KeepField = line.Keep (conditions (terms_of question).keep)
 
 -- the line, unless it is plain
 abbrev pub told_line : Question → Field → List Line
-told_line question field = if is_plain question field then [] else field_line question field ∷ []
+told_line question field = if says_more question field then field_line question field ∷ [] else []
 
 -- what it is about, as its text of this version has it, of the fourth what isn't plain
 abbrev pub question_lines : Version → Question → List Line

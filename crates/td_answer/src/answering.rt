@@ -4,6 +4,7 @@ ghost use Rattle.std.specs.Prelude.{◌≡◌, ◌⊎◌, slice_get, IfOk, IfErr
 ghost use Rattle.td_search.specs.Problems.{Problem};
 ghost use Rattle.td_question.specs.Asking.{IsAsked};
 ghost use Rattle.td_answer.specs.Outcomes.{IsPlain, IsCheckedTrue, IsRefusedChecked, IsSearchedTrue, IsCertifiedSearch, IsRefusedSearched, IsSearched, IsTrueOutcome, HasCertificate, IsRefused};
+ghost use Rattle.td_answer.specs.Writing.{CanBeWritten};
 
 use crate::bound::bounds;
 use crate::check::verdict_on;
@@ -39,6 +40,7 @@ pub fn answer<'n, 'w, 'c, W: Watch, R: Threads + Wait + Clock + Sync>(
 ) -> Result<Outcome, Refusal<'n, 'w>>
     ensures says { IfOk result (IsTrueOutcome request.now texts.now) }
     ensures certified { IfOk result (HasCertificate request.now texts.now) }
+    ensures written { IfOk result CanBeWritten }
     ensures refusal { IfErr result (IsRefused request.now texts.now) }
     // The progress that the watch got, if any, is true of what is asked.
     ensures reported { (watch.new ≡ watch.old)
@@ -61,6 +63,7 @@ pub fn answer_plain<'n, 'w, 'c>(
     requires { IsPlain request.now.command }
     ensures says { IfOk result (IsTrueOutcome request.now texts.now) }
     ensures certified { IfOk result (HasCertificate request.now texts.now) }
+    ensures written { IfOk result CanBeWritten }
     ensures refusal { IfErr result (IsRefused request.now texts.now) }
 {
     let text = texts.netlist;
@@ -87,6 +90,7 @@ fn searched<'n, 'w, W: Watch, R: Threads + Wait + Clock + Sync>(
 ) -> Result<Outcome, Refusal<'n, 'w>>
     ensures says { IfOk result (IsSearchedTrue search.now.each text.now reading.now search.now) }
     ensures certified { IfOk result (IsCertifiedSearch search.now.each text.now reading.now search.now) }
+    ensures written { IfOk result CanBeWritten }
     ensures refusal { IfErr result (IsRefusedSearched search.now.each text.now reading.now search.now) }
     ensures reported { (watch.new ≡ watch.old)
         ⊎ ((asked : Problem) × IsAsked text.now reading.now search.now.question asked.setting asked.admit × W.reported asked watch.old watch.new) }
@@ -107,6 +111,7 @@ fn checked<'n, 'w>(
 ) -> Result<Outcome, Refusal<'n, 'w>>
     ensures says { IfOk result (IsCheckedTrue text.now reading.now (slice_get certificates.now 0)) }
     ensures certified { IfOk result (λ outcome. outcome.certificate ≡ Nothing) }
+    ensures written { IfOk result CanBeWritten }
     ensures refusal { IfErr result (IsRefusedChecked text.now reading.now asked.now (slice_get certificates.now 0)) }
 {
     match certificates.first() {

@@ -8,6 +8,7 @@ ghost use Rattle.td_certificate.specs.Accepts.{IsBoundBy};
 ghost use Rattle.td_answer.specs.Additions.{AddsLines};
 ghost use Rattle.td_answer.specs.Bounds.{IsSoundBound, bound_lines, AreEdges, HasEdges, TellsBound, ReportsBounds, IsTrueBound, IsRefusedBound};
 ghost use Rattle.td_answer.specs.BoundNets.{IsBoundNet, IsFirstWith};
+ghost use Rattle.td_answer.specs.Writing.{CanBeWritten};
 
 use crate::beside::output_line;
 use crate::head::begun;
@@ -26,13 +27,13 @@ use td_ternary::Possible;
 
 /// The bounds of a cube: by arrival windows, by possible levels, and by both at once.
 #[derive(Clone, Copy, Drop)]
-struct Bounds {
+struct Figures {
     arrivals: Option<u64>,
     possibles: Option<u64>,
     both: Option<u64>,
 }
 
-fn bounds_of(alloc: Global, circuit: &Circuit, cube: &Cube) -> Result<Bounds, AllocError>
+fn bounds_of(alloc: Global, circuit: &Circuit, cube: &Cube) -> Result<Figures, AllocError>
     requires { length cube.now ≡ 2 * length circuit.now.netlist.inputs }
     ensures arrivals { IfOk result (λ bounds. IsSoundBound by.Arrival (setting circuit.now) cube.now bounds.arrivals) }
     ensures possibles { IfOk result (λ bounds. IsSoundBound by.Possible (setting circuit.now) cube.now bounds.possibles) }
@@ -41,7 +42,7 @@ fn bounds_of(alloc: Global, circuit: &Circuit, cube: &Cube) -> Result<Bounds, Al
     let arrivals = bound::<Arrival>(alloc, circuit, cube)?;
     let possibles = bound::<Possible>(alloc, circuit, cube)?;
     let both = bound::<Both<Arrival, Possible>>(alloc, circuit, cube)?;
-    Ok(Bounds {
+    Ok(Figures {
         arrivals,
         possibles,
         both,
@@ -49,7 +50,7 @@ fn bounds_of(alloc: Global, circuit: &Circuit, cube: &Cube) -> Result<Bounds, Al
 }
 
 /// Appends the lines of the bounds.
-fn push_bounds(report: &mut Report, bounds: Bounds) -> Result<(), AllocError>
+fn push_bounds(report: &mut Report, bounds: Figures) -> Result<(), AllocError>
     ensures { OnOk result (report.new ≡ report.old ++ bound_lines bounds.arrivals bounds.possibles bounds.both) }
 {
     report.add(Line::Bound(Figure::Arrivals, bounds.arrivals))?;
@@ -191,6 +192,7 @@ pub(crate) fn bounds<'n, 'w>(
 ) -> Result<Outcome, Refusal<'n, 'w>>
     ensures says { IfOk result (IsTrueBound text.now reading.now asked.now) }
     ensures certified { IfOk result (λ outcome. outcome.certificate ≡ Nothing) }
+    ensures written { IfOk result CanBeWritten }
     ensures refusal { IfErr result (IsRefusedBound text.now reading.now asked.now) }
 {
     let about = cube_of(alloc, text, reading, &asked.inputs)?;

@@ -2,6 +2,7 @@
 
 ghost use Rattle.std.specs.Prelude.{◌≡◌, IfOk, IfErr, None as Nothing};
 ghost use Rattle.td_answer.specs.Verdicts.{AreRefusedLines, AreVerdictLines, ending_by, IsTrueCheck, IsRefusedCheck};
+ghost use Rattle.td_answer.specs.Writing.{CanBeWritten};
 
 use crate::claims::accepted;
 use crate::outcome::Outcome;
@@ -58,6 +59,7 @@ pub(crate) fn verdict_on<'n, 'w>(
 ) -> Result<Outcome, Refusal<'n, 'w>>
     ensures says { IfOk result (IsTrueCheck text.now reading.now certificate.now) }
     ensures certified { IfOk result (λ outcome. outcome.certificate ≡ Nothing) }
+    ensures written { IfOk result CanBeWritten }
     ensures refusal { IfErr result (IsRefusedCheck text.now reading.now certificate.now) }
 {
     let checked = check(alloc, text, reading, certificate)?;

@@ -1,10 +1,11 @@
 //! What a report says of a certificate that is accepted.
 
-ghost use Rattle.std.specs.Prelude.{◌≡◌, ◌++◌, map, IfOk, OnOk};
+ghost use Rattle.std.specs.Prelude.{◌≡◌, ◌++◌, ◌∷◌, ◌==◌, ◌&&◌, [], map, not, is_some, if◌then◌else◌, IfOk, OnOk};
 ghost use Rattle.td_certificate.specs.Questions.{holds_none, is_at_once};
 ghost use Rattle.td_certificate.specs.Plain.{has_level};
 ghost use Rattle.td_certificate.specs.declared.question.Version.TheVariants as of_version;
 ghost use Rattle.td_certificate.specs.Spelling.{DefaultField, OutputField, FirstField, SecondField, HoldField, FlipsField, AtField, KeepField, fields_of};
+ghost use Rattle.td_lines.specs.declared.line.Line.TheVariants as line;
 ghost use Rattle.td_answer.specs.Claims.{accepted_line, output_number, field_line, told_line, question_lines, claim_lines};
 
 use crate::conditions::conditions;
@@ -64,11 +65,7 @@ fn moments_line(alloc: Global, question: &Question) -> Result<Line, AllocError>
 }
 
 /// Appends which pairs are admitted.
-fn push_pins(
-    alloc: Global,
-    report: &mut Report,
-    question: &Question,
-) -> Result<(), AllocError>
+fn push_pins(alloc: Global, report: &mut Report, question: &Question) -> Result<(), AllocError>
     ensures { OnOk result (report.new ≡ report.old ++ map (field_line question.now) (fields_of of_version.Second)) }
 {
     let admit = question.admit();
@@ -84,11 +81,7 @@ fn push_pins(
 }
 
 /// Appends which pairs are admitted, and when inputs change.
-fn push_dated(
-    alloc: Global,
-    report: &mut Report,
-    question: &Question,
-) -> Result<(), AllocError>
+fn push_dated(alloc: Global, report: &mut Report, question: &Question) -> Result<(), AllocError>
     ensures { OnOk result (report.new ≡ report.old ++ map (field_line question.now) (fields_of of_version.Third)) }
 {
     let line = moments_line(alloc, question)?;
@@ -97,34 +90,39 @@ fn push_dated(
 }
 
 /// Appends the delays of gates that state none, where they aren't plain.
-fn tell_default(report: &mut Report, question: &Question) -> Result<(), AllocError>
-    ensures { OnOk result (report.new ≡ report.old ++ told_line question.now DefaultField) }
+fn tell_default(report: &mut Report, terms: &Terms) -> Result<(), AllocError>
+    ensures { OnOk result (report.new ≡ report.old ++
+        (if not (terms.now.default.rise == 1 && terms.now.default.fall == 1) then line.Default terms.now.default.rise terms.now.default.fall ∷ [] else [])) }
 {
-    match question.terms() {
-        None => Ok(()),
-        Some(terms) => {
-            if terms.rise == 1 && terms.fall == 1 {
-                return Ok(());
-            }
-            report.add(Line::Default {
-                rise: u64::from(terms.rise),
-                fall: u64::from(terms.fall),
-            })
-        }
+    if terms.rise == 1 && terms.fall == 1 {
+        return Ok(());
     }
+    report.add(Line::Default {
+        rise: u64::from(terms.rise),
+        fall: u64::from(terms.fall),
+    })
 }
 
 /// Appends which output is asked about, where one is.
-fn tell_output(report: &mut Report, question: &Question) -> Result<(), AllocError>
-    ensures { OnOk result (report.new ≡ report.old ++ told_line question.now OutputField) }
+fn tell_output(report: &mut Report, terms: &Terms) -> Result<(), AllocError>
+    ensures { OnOk result (report.new ≡ report.old ++
+        (if is_some terms.now.outputs then line.OutputNumber (output_number terms.now.outputs) ∷ [] else [])) }
+{
+    if terms.outputs.is_none() {
+        return Ok(());
+    }
+    report.add(Line::OutputNumber(output_number(terms)))
+}
+
+/// Appends how the netlist is read, where that isn't plain.
+fn tell_terms(report: &mut Report, question: &Question) -> Result<(), AllocError>
+    ensures { OnOk result (report.new ≡ report.old ++ (told_line question.now DefaultField ++ told_line question.now OutputField)) }
 {
     match question.terms() {
         None => Ok(()),
         Some(terms) => {
-            if terms.outputs.is_none() {
-                return Ok(());
-            }
-            report.add(Line::OutputNumber(output_number(terms)))
+            tell_default(report, terms)?;
+            tell_output(report, terms)
         }
     }
 }
@@ -201,8 +199,7 @@ fn tell_keep(alloc: Global, report: &mut Report, question: &Question) -> Result<
 fn tell_all(alloc: Global, report: &mut Report, question: &Question) -> Result<(), AllocError>
     ensures { OnOk result (report.new ≡ report.old ++ question_lines of_version.Fourth question.now) }
 {
-    tell_default(report, question)?;
-    tell_output(report, question)?;
+    tell_terms(report, question)?;
     tell_first(alloc, report, question)?;
     tell_second(alloc, report, question)?;
     tell_held(alloc, report, question)?;

@@ -61,16 +61,25 @@ fn push_others(text: &mut String, others: &[NamedCondition]) -> Result<(), Alloc
     Ok(())
 }
 
+/// Appends conditions, a space between each two.
+fn push_some(
+    text: &mut String,
+    first: NamedCondition,
+    others: &[NamedCondition],
+) -> Result<(), AllocError>
+    ensures { OnOk result (string_bytes text.new ≡ string_bytes text.old ++ conditions (first ∷ others.now)) }
+{
+    push_condition(text, first)?;
+    push_others(text, others)
+}
+
 /// Appends conditions, a space between each two, or `none`.
 fn push_conditions(text: &mut String, keep: &[NamedCondition]) -> Result<(), AllocError>
     ensures { OnOk result (string_bytes text.new ≡ string_bytes text.old ++ conditions keep.now) }
 {
-    match keep {
-        [] => text.push_str("none"),
-        [first, ..] => {
-            push_condition(text, *first)?;
-            push_others(text, &keep[1..])
-        }
+    match keep.split_first() {
+        None => text.push_str("none"),
+        Some((first, others)) => push_some(text, *first, others),
     }
 }
 

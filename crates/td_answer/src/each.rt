@@ -8,6 +8,7 @@ ghost use Rattle.td_answer.specs.Additions.{AddsLines};
 ghost use Rattle.td_answer.specs.Bounds.{IsSoundBound};
 ghost use Rattle.td_answer.specs.Searches.{IsRefusedSearch};
 ghost use Rattle.td_answer.specs.Tables.{found_of, is_exact, table_ending, IsOutline, AreTrueFigures, IsTrueRow, AreRows, AreEach, RowFails, HasNoRow, IsTrueTable, IsRefusedTable};
+ghost use Rattle.td_answer.specs.Writing.{CanBeWritten};
 
 use crate::head::begun;
 use crate::names::label;
@@ -209,6 +210,7 @@ pub(crate) fn table<'n, 'w, R: Threads + Wait + Clock + Sync>(
 ) -> Result<Outcome, Refusal<'n, 'w>>
     ensures says { IfOk result (IsTrueTable text.now reading.now search.now) }
     ensures certified { IfOk result (λ outcome. outcome.certificate ≡ Nothing) }
+    ensures written { IfOk result CanBeWritten }
     ensures refusal { IfErr result (IsRefusedTable text.now reading.now search.now) }
 {
     let Outline { report, names } = outline_of(alloc, text, reading, search)?;

@@ -89,10 +89,9 @@ fn judged_part<'n, 'w>(
     ensures refusal { IfErr result (λ reason. (netlist : Netlist) → TellsNoPart text.now reading.now netlist is_checked name.now spelled.now reason) }
 {
     if is_checked {
-        accepted_part(alloc, text, reading, name, spelled)
-    } else {
-        read_part(alloc, name, spelled)
+        return accepted_part(alloc, text, reading, name, spelled);
     }
+    read_part(alloc, name, spelled)
 }
 
 /// The part of a question about a circuit that a text tells.

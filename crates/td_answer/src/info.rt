@@ -4,6 +4,7 @@ ghost use Rattle.std.specs.Prelude.{◌≡◌, ◌++◌, IfOk, IfErr, OnOk, None
 ghost use Rattle.td_answer.specs.Names.{label};
 ghost use Rattle.td_answer.specs.Additions.{AddsLines};
 ghost use Rattle.td_answer.specs.Infos.{module_name, span_of, places_from, size_lines, AreDelays, ArePlaces, AreInputs, AreOutputs, TellsNetlist, IsTrueInfo, IsRefusedInfo};
+ghost use Rattle.td_answer.specs.Writing.{CanBeWritten};
 
 use crate::names::label;
 use crate::outcome::Outcome;
@@ -148,6 +149,7 @@ pub(crate) fn info<'n, 'w>(
 ) -> Result<Outcome, Refusal<'n, 'w>>
     ensures says { IfOk result (IsTrueInfo text.now reading.now) }
     ensures certified { IfOk result (λ outcome. outcome.certificate ≡ Nothing) }
+    ensures written { IfOk result CanBeWritten }
     ensures refusal { IfErr result (IsRefusedInfo text.now reading.now) }
 {
     let circuit = match circuit_of(alloc, text, reading) {

@@ -10,6 +10,7 @@ ghost use Rattle.td_answer.specs.Heads.{head_lines};
 ghost use Rattle.td_answer.specs.Lines.{exact_lines};
 ghost use Rattle.td_answer.specs.Joins.{texts_of, whole_pins, most_nodes, IsUnjoinedFor, IsTrueJoin, IsRefusedJoin};
 ghost use Rattle.td_answer.specs.Unjoined.{IsOfUnjoined};
+ghost use Rattle.td_answer.specs.Writing.{CanBeWritten};
 
 use crate::answers::push_exact;
 use crate::gathering::parts_in;
@@ -140,6 +141,7 @@ pub(crate) fn join<'n, 'w>(
     certificates: &[Vec<u8>],
 ) -> Result<Outcome, Refusal<'n, 'w>>
     ensures says { IfOk result (IsTrueJoin text.now reading.now asked.now (texts_of certificates.now)) }
+    ensures written { IfOk result CanBeWritten }
     ensures refusal { IfErr result (IsRefusedJoin text.now reading.now asked.now (texts_of certificates.now)) }
 {
     let pinned = pins_of(alloc, text, reading, &asked.inputs)?;

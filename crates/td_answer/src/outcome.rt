@@ -29,6 +29,7 @@ pub struct Outcome {
 impl Outcome {
     ghost use Rattle.std.specs.Prelude.{◌≡◌, None};
     ghost use Rattle.td_answer.specs.declared.status.Status.TheVariants as ending;
+    ghost use Rattle.td_answer.specs.Writing.{CanBeWritten};
 
     /// A report alone, of a command that was carried out.
     pub(crate) fn done(report: Report) -> Outcome
@@ -37,6 +38,7 @@ impl Outcome {
         ensures dump { result.dump ≡ None }
         ensures status { result.status ≡ ending.Done }
         ensures verdict { result.verdict ≡ None }
+        ensures written { CanBeWritten result }
     {
         Outcome {
             report,

@@ -3,6 +3,7 @@
 ghost use Rattle.std.specs.Prelude.{◌≡◌, ◌∷◌, ◌++◌, [], map, decimal, IfOk, IfErr, OnOk, None as Nothing};
 ghost use Rattle.td_inputs.specs.Placings.{words_by_place, text_of};
 ghost use Rattle.td_answer.specs.Parts.{given_words, flips_words, default_words, pins_words, question_words, reading_words, part_words, HasParts, IsTrueParts, IsRefusedParts};
+ghost use Rattle.td_answer.specs.Writing.{CanBeWritten};
 
 use crate::outcome::Outcome;
 use crate::pins::trits;
@@ -184,6 +185,7 @@ pub(crate) fn parts<'n, 'w>(
 ) -> Result<Outcome, Refusal<'n, 'w>>
     ensures says { IfOk result (IsTrueParts text.now reading.now asked.now) }
     ensures certified { IfOk result (λ outcome. outcome.certificate ≡ Nothing) }
+    ensures written { IfOk result CanBeWritten }
     ensures refusal { IfErr result (IsRefusedParts text.now reading.now asked.now) }
 {
     let about = question_of(alloc, text, reading, &asked.question)?;

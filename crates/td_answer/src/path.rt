@@ -10,6 +10,7 @@ ghost use Rattle.td_answer.specs.Heads.{head_lines};
 ghost use Rattle.td_answer.specs.Runs.{TellsOutput, IsStill};
 ghost use Rattle.td_answer.specs.Additions.{AddsLines, IsOutputNamed, TellsNet, NeverChanges, waves_in};
 ghost use Rattle.td_answer.specs.Paths.{ReportsPath, HasNoneNamed, IsTruePath, IsRefusedPath};
+ghost use Rattle.td_answer.specs.Writing.{CanBeWritten};
 
 use crate::beside::{changes_line, latest_line};
 use crate::head::begun;
@@ -133,6 +134,7 @@ pub(crate) fn path<'n, 'w>(
 ) -> Result<Outcome, Refusal<'n, 'w>>
     ensures says { IfOk result (IsTruePath text.now reading.now asked.now) }
     ensures certified { IfOk result (λ outcome. outcome.certificate ≡ Nothing) }
+    ensures written { IfOk result CanBeWritten }
     ensures refusal { IfErr result (IsRefusedPath text.now reading.now asked.now) }
 {
     let waves = simulated(alloc, text, reading, &asked.inputs, asked.from, asked.to)?;

@@ -6,6 +6,7 @@ ghost use Rattle.td_answer.specs.Runs.{last_of, AreLasts};
 ghost use Rattle.td_answer.specs.Additions.{AddsLines, waves_in};
 ghost use Rattle.td_answer.specs.Dumps.{waves_of};
 ghost use Rattle.td_answer.specs.Simulations.{IsSimulated, HasRun, IsRunReport, IsTrueSim, IsRefusedRun, IsRefusedSim};
+ghost use Rattle.td_answer.specs.Writing.{CanBeWritten};
 
 use crate::beside::push_last;
 use crate::head::begun;
@@ -107,6 +108,7 @@ pub(crate) fn sim<'n, 'w>(
 ) -> Result<Outcome, Refusal<'n, 'w>>
     ensures says { IfOk result (IsTrueSim text.now reading.now asked.now) }
     ensures certified { IfOk result (λ outcome. outcome.certificate ≡ Nothing) }
+    ensures written { IfOk result CanBeWritten }
     ensures refusal { IfErr result (IsRefusedSim text.now reading.now asked.now) }
 {
     let waves = simulated(alloc, text, reading, &asked.inputs, asked.from, asked.to)?;

@@ -15,6 +15,7 @@ ghost use Rattle.td_answer.specs.Certificates.{certificate_in, CanBeTold};
 ghost use Rattle.td_answer.specs.Sentences.{IsTrueWorst};
 ghost use Rattle.td_answer.specs.Certified.{IsCertified};
 ghost use Rattle.td_answer.specs.Searches.{IsRefusedSearch};
+ghost use Rattle.td_answer.specs.Writing.{CanBeWritten};
 
 use crate::answers::{ending_of, pair_in, report_of};
 use crate::beside::push_run;
@@ -156,6 +157,7 @@ pub(crate) fn worst<'n, 'w, W: Watch, R: Threads + Wait + Clock + Sync>(
 ) -> Result<Outcome, Refusal<'n, 'w>>
     ensures says { IfOk result (IsTrueWorst text.now reading.now search.now) }
     ensures certified { IfOk result (λ outcome. IsCertified text.now reading.now search.now.question outcome.report outcome.certificate outcome.status) }
+    ensures written { IfOk result CanBeWritten }
     ensures refusal { IfErr result (IsRefusedSearch text.now reading.now search.now) }
     ensures reported { (watch.new ≡ watch.old)
         ⊎ ((asked : Problem) × IsAsked text.now reading.now search.now.question asked.setting asked.admit × W.reported asked watch.old watch.new) }
