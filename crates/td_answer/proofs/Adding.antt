@@ -29,6 +29,21 @@ two One Other Both old mid new join first second = (
 pub two_pushed : (old front name first new : List ℕ) → first ≡ old ++ front → new ≡ first ++ name → new ≡ old ++ (front ++ name)
 two_pushed old front name first new is_first is_new = rw (is_new, is_first, append_assoc old front name) refl
 
+-- lists to which two, three or four were appended in turn
+pub two_appended : {A : Type 0} (old t new a b : List A) → t ≡ old ++ a → new ≡ t ++ b → new ≡ old ++ (a ++ b)
+two_appended old t new a b is_t is = rw (is, is_t, append_assoc old a b) refl
+
+pub three_appended : {A : Type 0} (old t u new a b c : List A) → t ≡ old ++ a → u ≡ t ++ b → new ≡ u ++ c → new ≡ old ++ (a ++ b ++ c)
+three_appended old t u new a b c is_t is_u is = two_appended old u new (a ++ b) c (two_appended old t u a b is_t is_u) is
+
+pub four_appended : {A : Type 0} (old t u v new a b c d : List A) → t ≡ old ++ a → u ≡ t ++ b → v ≡ u ++ c → new ≡ v ++ d → new ≡ old ++ (a ++ b ++ c ++ d)
+four_appended old t u v new a b c d is_t is_u is_v is = two_appended old v new (a ++ b ++ c) d (three_appended old t u v a b c is_t is_u is_v) is
+
+-- two words, each with what stands before it, and a reason
+pub two_told : (old t u new front one between other behind why : List ℕ) → t ≡ old ++ (front ++ one) → u ≡ t ++ (between ++ other ++ behind) → new ≡ u ++ why
+    → new ≡ old ++ (front ++ one ++ between ++ other ++ behind ++ why)
+two_told old t u new front one between other behind why is_t is_u is = rw (is, is_u, is_t) (simp append_assoc)
+
 -- ---- lists
 
 -- one more element of a list, mapped

@@ -10,3 +10,5 @@ pub mod Whole
 pub mod Cuts
 pub mod Keeping
 pub mod Writable
+pub mod Gathered
+pub mod Reporting

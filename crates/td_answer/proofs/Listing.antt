@@ -1,5 +1,5 @@
 -- Lines of several rows.
-use Rattle.std.proofs.Common.{◌≡◌, ◌≢◌, ◌∙◌, ◌+◌, ℕ, List, [], ◌∷◌, ◌++◌, drop, take, length, refl, sym, ap, inl, inr, append_assoc, append-nil, Some}
+use Rattle.std.proofs.Common.{◌≡◌, ◌≢◌, ◌∙◌, ◌+◌, ℕ, arith, List, [], ◌∷◌, ◌++◌, drop, take, length, refl, sym, ap, inl, inr, append_assoc, append-nil, Some}
 use Rattle.std.specs.Prelude.{slice_get, map}
 use Rattle.std.specs.Global.{Vec}
 use Rattle.td_nets.specs.Netlist.{Name}
@@ -11,14 +11,18 @@ use Rattle.td_answer.specs.Infos.{places_from}
 use Rattle.td_answer.specs.Additions.{AddsLines}
 use Rattle.td_answer.proofs.Adding.{nothing, drop_next}
 
+pub no_rows : {A : Type 0} (rows : List A) → length rows ≡ 0 → rows ≡ []
+no_rows [] none = refl
+no_rows (row ∷ rows) none = absurd (omega (arith, none))
+
 module _ {A : Type 0} (told : Vec A → Line) where
   -- there are no rows
-  pub none : (rows : List A) (now : List Line) → rows ≡ [] → AddsLines (HasRows told rows) now now
-  none rows now empty = nothing (HasRows told rows) now (inl (empty, refl))
+  pub none : (rows : List A) (now : List Line) → length rows ≡ 0 → AddsLines (HasRows told rows) now now
+  none rows now empty = nothing (HasRows told rows) now (inl (no_rows rows empty, refl))
 
   -- there are
-  pub some : (rows : Vec A) (old new : List Line) → rows.items ≢ [] → new ≡ old ++ told rows ∷ [] → AddsLines (HasRows told rows.items) old new
-  some rows old new full added = (told rows ∷ [], added, inr (rows, full, refl, refl))
+  pub some : (rows : Vec A) (old new : List Line) → length rows.items ≢ 0 → new ≡ old ++ told rows ∷ [] → AddsLines (HasRows told rows.items) old new
+  some rows old new full added = (told rows ∷ [], added, inr (rows, λ empty. full (ap (λ (r : List A). length r) empty), refl, refl))
 
 -- the place of one more net
 pub place_more : (names : List Name) (i : ℕ) (name : Name) (places new : List Place) (row : Place)

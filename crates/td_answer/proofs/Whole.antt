@@ -18,7 +18,7 @@ use Rattle.td_certificate.specs.declared.fault.CertFault.{CertFault}
 use Rattle.td_certificate.specs.Questions.{asking_of}
 use Rattle.td_certificate.specs.Accepts.{Accepts, setting_of, IsOfSize}
 use Rattle.td_certificate.specs.Faults.{IsFault}
-use Rattle.td_certificate.specs.Spelling.{HasSpelling, Spells}
+use Rattle.td_certificate.specs.Spelling.{HasSpelling, Spells, latest}
 use Rattle.td_certificate.proofs.Acceptance.{accepted_is_true}
 use Rattle.td_certificate.proofs.Texts.{spells_once}
 use Rattle.td_checker.specs.declared.verdict.CheckFault.{CheckFault}
@@ -81,7 +81,7 @@ module _ (text : List ℕ) (reading : Reading) (netlist : Netlist) (circuit : Ha
   fits : (whole : Certificate) → HasSpelling whole → Accepts netlist whole → AreMoments netlist whole.question.moments
   fits whole spelled accepted = record {
     count = spelled.count ∙ sym accepted.size.inputs;
-    within = All-from_recursion spelled.moments;
+    within = All-from_recursion (λ moment. moment ≤ latest) whole.question.moments spelled.moments;
   }
 
   -- where the parts are checked, its time is the worst delay
@@ -89,8 +89,8 @@ module _ (text : List ℕ) (reading : Reading) (netlist : Netlist) (circuit : Ha
       → AreParts text reading netlist checked names texts parts → IsJoined parts pins whole → HasSpelling whole
       → ((any : Netlist) → All (Accepts any) parts → Accepts any whole) → checked ≡ true
       → IsWorstAsked (setting_of netlist whole) (asking_of whole.question) whole.time
-  whole_worst checked names texts parts pins whole formed are joined spelled accepted yes =
-      let each = parts_accepted names texts parts (subst (λ (b : Bool). AreParts text reading netlist b names texts parts) yes are) in
+  whole_worst checked names texts parts pins whole formed are joined spelled accepted check =
+      let each = parts_accepted names texts parts (subst (λ (b : Bool). AreParts text reading netlist b names texts parts) check are) in
       let is = accepted netlist each in
       let claim = accepted_is_true netlist whole formed circuit.acyclic (fits whole spelled is) is in (
         (whole.pair, claim.admitted, claim.reached),

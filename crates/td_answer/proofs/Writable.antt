@@ -24,13 +24,13 @@ none_spelled certificate none = subst (λ (c : Option Certificate). IfSome c Has
 -- the certificate of a search
 certificate_spelled : (text : List ℕ) (reading : Reading) (question : Question) (report : List Line) (certificate : Option Certificate) (ending : Status)
     → IsCertified text reading question report certificate ending → IfSome certificate HasSpelling
+certificate_spelled text reading question report None ending is = tt
 certificate_spelled text reading question report (Some certificate) status.Done is = is.written
-certificate_spelled text reading question report None status.Done is = tt
-certificate_spelled text reading question report certificate status.Refused is = none_spelled certificate is
-certificate_spelled text reading question report certificate status.BadCommand is = none_spelled certificate is
-certificate_spelled text reading question report certificate status.Between is = none_spelled certificate is
-certificate_spelled text reading question report certificate status.Rejected is = none_spelled certificate is
-certificate_spelled text reading question report certificate status.Device is = none_spelled certificate is
+certificate_spelled text reading question report (Some certificate) status.Refused is = none_spelled (Some certificate) is
+certificate_spelled text reading question report (Some certificate) status.BadCommand is = none_spelled (Some certificate) is
+certificate_spelled text reading question report (Some certificate) status.Between is = none_spelled (Some certificate) is
+certificate_spelled text reading question report (Some certificate) status.Rejected is = none_spelled (Some certificate) is
+certificate_spelled text reading question report (Some certificate) status.Device is = none_spelled (Some certificate) is
 
 -- the dump that is asked for
 dump_written : (is_asked : Bool) (setting : Setting) (IsRun : (Net → Wave) → Type 0) (dump : Option Waves) → IsDumpWhere is_asked setting IsRun dump

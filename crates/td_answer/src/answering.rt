@@ -69,13 +69,13 @@ pub fn answer_plain<'n, 'w, 'c>(
     let text = texts.netlist;
     let reading = &request.reading;
     match &request.command {
-        Command::Check(asked) => checked(alloc, text, reading, asked, texts.certificates),
-        Command::Sim(asked) => sim(alloc, text, reading, asked),
-        Command::Path(asked) => path(alloc, text, reading, asked),
-        Command::Bound(asked) => bounds(alloc, text, reading, asked),
-        Command::Parts(asked) => parts(alloc, text, reading, asked),
-        Command::Join(asked) => join(alloc, text, reading, asked, texts.certificates),
-        Command::Info => info(alloc, text, reading),
+        Command::Check(asked) => return checked(alloc, text, reading, asked, texts.certificates),
+        Command::Sim(asked) => return sim(alloc, text, reading, asked),
+        Command::Path(asked) => return path(alloc, text, reading, asked),
+        Command::Bound(asked) => return bounds(alloc, text, reading, asked),
+        Command::Parts(asked) => return parts(alloc, text, reading, asked),
+        Command::Join(asked) => return join(alloc, text, reading, asked, texts.certificates),
+        Command::Info => return info(alloc, text, reading),
         Command::Worst(_) => unreachable!(),
     }
 }
@@ -114,8 +114,8 @@ fn checked<'n, 'w>(
     ensures written { IfOk result CanBeWritten }
     ensures refusal { IfErr result (IsRefusedChecked text.now reading.now asked.now (slice_get certificates.now 0)) }
 {
-    match certificates.first() {
-        Some(certificate) => verdict_on(alloc, text, reading, certificate),
-        None => Err(Refusal::Unread(asked.certificate)),
-    }
+    let Some(certificate) = certificates.first() else {
+        return Err(Refusal::Unread(asked.certificate));
+    };
+    verdict_on(alloc, text, reading, certificate)
 }

@@ -125,8 +125,8 @@ fn part_at<'n, 'w>(
     name: &'w str,
     spelled: Option<&Vec<u8>>,
 ) -> Result<Certificate, Refusal<'n, 'w>>
-    ensures part { IfOk result (TellsPartOf text.now reading.now circuit.now.netlist is_checked (option_map (λ bytes. bytes.now.items) spelled)) }
-    ensures refusal { IfErr result (LacksPart text.now reading.now circuit.now.netlist is_checked name.now (option_map (λ bytes. bytes.now.items) spelled)) }
+    ensures part { IfOk result (TellsPartOf text.now reading.now circuit.now.netlist is_checked (option_map (λ bytes. bytes.now.items) spelled.entry)) }
+    ensures refusal { IfErr result (LacksPart text.now reading.now circuit.now.netlist is_checked name.now (option_map (λ bytes. bytes.now.items) spelled.entry)) }
 {
     match spelled {
         Some(spelled) => part(alloc, text, reading, circuit, is_checked, name, spelled),

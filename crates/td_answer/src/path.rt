@@ -112,7 +112,7 @@ fn named_report(
 ) -> Result<Option<Report>, AllocError>
     requires { IsRunFor circuit.now run.now }
     ensures reported { IfOk result (λ reported. IfSome reported (λ report.
-        ReportsPath (setting circuit.now) (waves_in circuit.now run.now) (Present word) report)) }
+        ReportsPath (setting circuit.now) (waves_in circuit.now run.now) (Present word.entry) report)) }
     ensures none { IfOk result (λ reported. IfNone reported (HasNoneNamed circuit.now.netlist word.now)) }
 {
     let Some(net) = output_named(alloc, circuit, word)? else {

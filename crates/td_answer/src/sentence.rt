@@ -2,7 +2,8 @@
 
 ghost use Rattle.std.specs.Prelude.{◌≡◌, ◌++◌, OnOk, map};
 ghost use Rattle.td_nets.specs.Views.{name_of};
-ghost use Rattle.td_answer.specs.Refusals.{unread_text, loop_text, netlist_text, fault_text, number_and_name, token_text, source_text, question_text, search_text, certificate_fault_text, certificate_text, check_text, refusing_text, place_text, bad_part_text, unaccepted_text, other_circuit_text, reason_text, refusal_text};
+ghost use Rattle.td_lines.specs.Texts.{place_text};
+ghost use Rattle.td_answer.specs.Refusals.{unread_text, loop_text, netlist_text, fault_text, number_and_name, token_text, source_text, question_text, search_text, certificate_fault_text, certificate_text, check_text, refusing_text, bad_part_text, unaccepted_text, other_circuit_text, reason_text, refusal_text};
 
 use crate::refusal::Refusal;
 use crate::unjoined::unjoined;

@@ -32,6 +32,16 @@ const ALONE: Shown = Shown {
     progress: false,
 };
 
+/// A certificate about the pairs in which the first input rises and the second one stays.
+const KEPT: &[u8] =
+    b"tdelay-cert 4\ncircuit 2 2\ndefault 1 1\noutput all\nfirst ..\nsecond ..\nhold ..\nflips 2\n\
+at 0 0\nkeep 2 01 3 ==\ntime 5\nhigh 5\nfrom 01\nto 11\nb a 5\n";
+
+/// The same, which leaves the worst delay open.
+const OPEN: &[u8] =
+    b"tdelay-cert 4\ncircuit 2 2\ndefault 1 1\noutput all\nfirst ..\nsecond ..\nhold ..\nflips 2\n\
+at 0 0\nkeep 2 01 3 ==\ntime 4\nhigh 5\nfrom 00\nto 10\nb a 5\n";
+
 /// The output that changes last is, and the way there.
 const BESIDE: Shown = Shown {
     path: true,
@@ -236,6 +246,21 @@ fn checks(rt: HostRuntime) -> Result<(), Fail> {
     push_certificate(&rt, alloc, Some("0."), &mut part)?;
     let about = b"accepted 5\nfirst 0.\nsecond ..\nhold ..\nflips 2\n";
     assert!(rt; says(&rt, alloc, checked(), &part, Status::Done, about)?);
+    Ok(())
+}
+
+/// What a certificate is about is told where it isn't plain, conditions too.
+#[test]
+fn checks_conditions(rt: HostRuntime) -> Result<(), Fail> {
+    let alloc = rt.alloc();
+    let mut texts = Vec::new(alloc);
+    texts.push(Vec::from_slice(alloc, KEPT)?)?;
+    let kept = b"accepted 5\nkeep 2 01 3 ==\n";
+    assert!(rt; says(&rt, alloc, checked(), &texts, Status::Done, kept)?);
+    let mut texts = Vec::new(alloc);
+    texts.push(Vec::from_slice(alloc, OPEN)?)?;
+    let open = b"accepted between 4 5\nkeep 2 01 3 ==\n";
+    assert!(rt; says(&rt, alloc, checked(), &texts, Status::Done, open)?);
     Ok(())
 }
 

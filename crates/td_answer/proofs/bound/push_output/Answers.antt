@@ -13,11 +13,11 @@ output_line-requires-clause-net c =
     let found = rw c.in-Some.is at c.in_ok-net.ensures in
     (named_number c.args.circuit.now _ found.0 found.1).1
 
-pub returns-in-Some : goal.returns-in-Some
-returns-in-Some c =
+pub returns-in_ok-line-in-Some : goal.returns-in_ok-line-in-Some
+returns-in_ok-line-in-Some c =
     on_ok_weaker c.add.result
-    (bound_named c.args.circuit.now c.args.cube.now c.args.bound c.in-Some.net c.in_ok-line.line c.args.report.now c.add.new.self
-    (rw c.in-Some.is at c.in_ok-net.ensures) c.in_ok-line.ensures)
+    (bound_named c.args.circuit.now c.args.cube.now c.args.bound c.in-Some.net c.in_ok-line-in-Some.line c.args.report.now c.add.new.self
+    (rw c.in-Some.is at c.in_ok-net.ensures) c.in_ok-line-in-Some.ensures)
     c.add.ensures
 
 pub returns-in-None : goal.returns-in-None

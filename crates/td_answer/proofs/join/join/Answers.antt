@@ -7,7 +7,7 @@ use Rattle.td_answer.proofs.join.join.Goals as goal
 
 pub returns-in_err-pinned-clause-refusal : goal.returns-in_err-pinned-clause-refusal
 returns-in_err-pinned-clause-refusal c =
-    let reported = err_from_is_err_and c.from_residual-in_err-pinned.result c.from_residual-in_err-pinned.ensures.1 in
+    let reported = err_from_is_err_and c.from_residual.result c.from_residual.ensures.1 in
     rw (reported.1, reported.2) (inl c.in_err-pinned.ensures.fault)
 
 pub returns-in_err-parts-clause-refusal : goal.returns-in_err-parts-clause-refusal
@@ -52,7 +52,10 @@ returns-clause-says c =
       few = c.in_ok-whole.ensures.few;
       accepted = c.in_ok-whole.ensures.accepted;
       worst = whole_worst c.args.text.now c.args.reading.now c.in_ok-pinned.pinned.circuit.netlist c.in_ok-pinned.ensures.asked.circuit c.args.asked.now.check _ _
-          c.in_ok-parts.parts.items _ c.in_ok-whole.whole c.gates-_gates.ensures.numbering.well_formed are c.in_ok-whole.ensures.joined spelled c.in_ok-whole.ensures.accepted;
+          c.in_ok-parts.parts.items _ c.in_ok-whole.whole c.gates-gates.ensures.numbering.well_formed are c.in_ok-whole.ensures.joined spelled c.in_ok-whole.ensures.accepted;
       is = c.in_ok-report.ensures;
       ends = refl;
     }
+
+pub returns-clause-written : goal.returns-clause-written
+returns-clause-written c = record { certificate = (returns-clause-says c).has_text; dump = tt }

@@ -7,6 +7,10 @@ use Rattle.td_worst.specs.Methods.{tree_of}
 use Rattle.td_worst.proofs.Outcomes.{outcome_by}
 use Rattle.td_question.proofs.Questions.{asked_held, asked_flips}
 use Rattle.td_answer.specs.Certificates.{certificate_in, CanBeTold}
+use Rattle.std.specs.Prelude.{is_some}
+use Rattle.td_answer.specs.Lines.{pair_in}
+use Rattle.td_answer.specs.Runs.{RunsPair}
+use Rattle.td_answer.proofs.Writable.{searched_written}
 use Rattle.td_answer.proofs.Searched.{pair_fits, says, certified, refused}
 use Rattle.td_answer.proofs.worst.worst.Goals as goal
 
@@ -45,10 +49,24 @@ returns-clause-certified g c =
     c.in_ok-asked.ensures.asked c.effort_of-effort.result.effort.budget _ c.in_ok-answer.answer c.in_ok-outcome.outcome refl c.in_ok-asked.ensures.output
     (outcome_by c.method_of-method.result _ c.effort_of-effort.result.effort.budget c.in_ok-answer.answer c.in_ok-answer.ensures.answer)
     c.in_ok-answer.ensures.text
-    (subst (λ (s : Strategy). CanBeTold _ s c.in_ok-answer.answer) c.strategy.ensures c.in_ok-outcome.ensures.told)
+    (subst (λ (s : Strategy). CanBeTold (record { default = c.args.reading.now.default; output = c.in_ok-asked.asked.output }) s c.in_ok-answer.answer) c.strategy.ensures c.in_ok-outcome.ensures.told)
     c.in_ok-outcome.ensures.report c.in_ok-outcome.ensures.status
     (rw c.strategy.ensures at c.in_ok-outcome.ensures.certified)
 
+pub returns-clause-written : goal.returns-clause-written
+returns-clause-written g c =
+    searched_written c.args.text.now c.args.reading.now c.args.search.now.question (is_some c.args.search.now.dump) (setting c.in_ok-asked.asked.circuit)
+    (RunsPair (setting c.in_ok-asked.asked.circuit) (pair_in c.in_ok-answer.answer)) c.in_ok-outcome.outcome
+    (returns-clause-certified g c) c.in_ok-outcome.ensures.dumped
+
 pub returns-clause-reported : goal.returns-clause-reported
 returns-clause-reported g c =
+    inr (problem_by (tree_of c.method_of-method.result) c.in_ok-asked.asked.circuit c.in_ok-asked.asked.admit, c.in_ok-asked.ensures.asked, c.in_ok-answer.ensures.reported)
+
+pub returns-in_err-answer-clause-reported : goal.returns-in_err-answer-clause-reported
+returns-in_err-answer-clause-reported g c =
+    inr (problem_by (tree_of c.method_of-method.result) c.in_ok-asked.asked.circuit c.in_ok-asked.asked.admit, c.in_ok-asked.ensures.asked, c.in_err-answer.ensures.reported)
+
+pub returns-in_err-outcome-clause-reported : goal.returns-in_err-outcome-clause-reported
+returns-in_err-outcome-clause-reported g c =
     inr (problem_by (tree_of c.method_of-method.result) c.in_ok-asked.asked.circuit c.in_ok-asked.asked.admit, c.in_ok-asked.ensures.asked, c.in_ok-answer.ensures.reported)
