@@ -26,3 +26,13 @@ returns-in_err-row-clause-refusal g c =
       subst (λ (name : List ℕ). Contains c.args.names.now name) (sym c.name-item.is) (Contains-get_or c.args.names.now c.loop-name.name-index c.name-item.result c.loop-name-test.true),
       rw c.text.ensures at c.in_err-row.ensures.refusal,
     )
+
+pub returns-in_err-push-clause-refusal : goal.returns-in_err-push-clause-refusal
+returns-in_err-push-clause-refusal g c =
+    let reported = err_from_is_err_and c.from_residual-in_err-push.result c.from_residual-in_err-push.ensures.1 in
+    let row = rw c.text.ensures at c.in_ok-row.ensures.row in
+    rw (reported.1, reported.2) (
+      c.name-item.result,
+      subst (λ (name : List ℕ). Contains c.args.names.now name) (sym c.name-item.is) (Contains-get_or c.args.names.now c.loop-name.name-index c.name-item.result c.loop-name-test.true),
+      (row.word, row.word_is, tt),
+    )

@@ -1,4 +1,4 @@
-use Rattle.std.proofs.Common.{refl, arith, ◌∙◌, ap, sym, length}
+use Rattle.std.proofs.Common.{arith, ◌∙◌, ap, sym, length}
 use Rattle.std.proofs.lemmas.Bool.{eqb-false, eqb-true}
 use Rattle.td_circuit.specs.Numbering.{setting}
 use Rattle.td_inputs.specs.Placings.{words_by_place}
@@ -35,6 +35,6 @@ returns-clause-says c = record {
   inside = c.in_ok-cubes.ensures.inside;
   told = c.in_ok-line.line;
   has = rw c.deref.ensures.value at c.in_ok-line.ensures;
-  is = c.in_ok-report.ensures;
-  ends = refl;
+  is = c.done.ensures.report ∙ c.in_ok-report.ensures;
+  ends = c.done.ensures.status;
 }
