@@ -1,5 +1,5 @@
 -- From the verdict on a certificate to what a check says.
-use Rattle.std.proofs.Common.{◌≡◌, ◌∙◌, ◌≤◌, ◌<◌, ℕ, List, ◌∷◌, Bool, true, false, refl, sym, ap, subst, arith, inl, inr}
+use Rattle.std.proofs.Common.{◌≡◌, ◌∙◌, ◌≤◌, ℕ, List, Bool, true, false, refl, sym, subst, arith, inl, inr}
 use Rattle.std.specs.Prelude.{◌==◌, if◌then◌else◌}
 use Rattle.std.proofs.lemmas.Bool.{eqb-true, eq-eqb, cases_eq}
 use Rattle.td_reading.specs.declared.reading.Reading.{Reading}
@@ -15,7 +15,7 @@ use Rattle.td_lines.specs.declared.line.Line.{Line}
 use Rattle.td_lines.specs.declared.line.Line.TheVariants as line
 use Rattle.td_answer.specs.declared.status.Status.{Status}
 use Rattle.td_answer.specs.Claims.{accepted_line}
-use Rattle.td_answer.specs.Verdicts.{AreVerdictLines, AreRefusedLines, ending_by, IsTrueClaim, IsAccepted, IsRejected, IsTrueVerdict}
+use Rattle.td_answer.specs.Verdicts.{AreVerdictLines, AreRefusedLines, ending_by, IsTrueClaim, IsRejected, IsTrueVerdict}
 
 -- the first line of a claim that is true is true
 claim_true : (setting : Setting) (c : Certificate) → IsClaim setting c → IsTrueClaim setting (asking_of c.question) (accepted_line c.time c.high)

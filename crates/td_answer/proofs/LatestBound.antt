@@ -1,5 +1,5 @@
 -- Which output has the bound of a cube.
-use Rattle.std.proofs.Common.{◌≡◌, ◌≢◌, ◌∙◌, ℕ, suc, ◌*◌, ◌<◌, List, [], ◌∷◌, ◌++◌, length, map, refl, sym, ap, arith, ◌⊎◌, inl, inr, append-nil, true, false, Option, Some, None, get_or}
+use Rattle.std.proofs.Common.{◌≡◌, ◌≢◌, ◌∙◌, ℕ, suc, ◌*◌, ◌<◌, List, [], ◌∷◌, ◌++◌, length, map, refl, sym, ap, arith, ◌⊎◌, inl, inr, true, false, Option, Some, None, get_or}
 use Rattle.std.specs.Prelude.{slice_get}
 use Rattle.std.proofs.lemmas.Bool.{cases_lt}
 use Rattle.std.proofs.lemmas.List.{length-map}
@@ -9,7 +9,6 @@ use Rattle.td_nets.specs.Netlist.{Name, Net, Named}
 use Rattle.td_circuit.specs.Settings.{AreMoments}
 use Rattle.td_circuit.specs.Numbering.{Numbered, setting, nets, IsNumbering}
 use Rattle.td_circuit.specs.NetValues.{net_value}
-use Rattle.td_circuit.proofs.Sorting.{named_same}
 use Rattle.td_circuit.proofs.Values.{value_at}
 use Rattle.td_domain.specs.declared.cubes.Trit.{Trit}
 use Rattle.td_domain.specs.Bounds.{AreSignals, greater, greatest_bound}

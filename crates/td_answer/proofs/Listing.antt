@@ -1,6 +1,6 @@
 -- Lines of several rows.
-use Rattle.std.proofs.Common.{◌≡◌, ◌≢◌, ◌∙◌, ◌+◌, ℕ, arith, List, [], ◌∷◌, ◌++◌, drop, take, length, refl, sym, ap, inl, inr, append_assoc, append-nil, Some}
-use Rattle.std.specs.Prelude.{slice_get, map}
+use Rattle.std.proofs.Common.{◌≡◌, ◌≢◌, ◌∙◌, ◌+◌, ℕ, arith, List, [], ◌∷◌, ◌++◌, drop, length, refl, sym, ap, inl, inr, append_assoc, Some}
+use Rattle.std.specs.Prelude.{slice_get}
 use Rattle.std.specs.Global.{Vec}
 use Rattle.td_nets.specs.Netlist.{Name}
 use Rattle.td_lines.specs.declared.line.Place.{Place}

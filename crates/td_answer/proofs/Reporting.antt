@@ -1,5 +1,5 @@
 -- Reports of runs, line by line, and dumps.
-use Rattle.std.proofs.Common.{◌≡◌, ◌∙◌, ℕ, Bool, true, false, List, [], ◌∷◌, ◌++◌, map, refl, ap, subst, append_assoc, Option, Some, None}
+use Rattle.std.proofs.Common.{◌≡◌, ◌∙◌, ℕ, Bool, true, false, List, [], ◌∷◌, ◌++◌, map, refl, ap, subst, append_assoc, Some, None}
 use Rattle.std.specs.Prelude.{if◌then◌else◌}
 use Rattle.td_gates.specs.Wave.{Wave}
 use Rattle.td_nets.specs.Netlist.{Net, Named, Netlist}

@@ -1,18 +1,18 @@
 -- From the answer of a search to the sentences.
-use Rattle.std.proofs.Common.{◌≡◌, ◌∙◌, ◌≤◌, ℕ, suc, List, [], ◌∷◌, ◌++◌, length, refl, sym, ap, subst, arith, Bool, true, false, append_assoc}
+use Rattle.std.proofs.Common.{◌≡◌, ◌∙◌, ℕ, suc, List, [], ◌∷◌, ◌++◌, length, refl, sym, ap, subst, arith, Bool, true, false, append_assoc}
 use Rattle.std.proofs.lemmas.List.{length-map}
 use Rattle.std.specs.Prelude.{Option, Some, None, min, is_some, if◌then◌else◌}
 use Rattle.std.specs.List.{Contains}
 use Rattle.td_gates.specs.declared.primitives.Level.{Level}
 use Rattle.td_gates.specs.Table.{level_from}
-use Rattle.td_nets.specs.Netlist.{Name, Named, Netlist}
+use Rattle.td_nets.specs.Netlist.{Name, Named}
 use Rattle.td_reading.specs.declared.reading.Reading.{Reading}
 use Rattle.td_source.specs.Reads.{IsOutputOf}
 use Rattle.td_circuit.specs.Numbering.{Numbered, setting}
 use Rattle.td_domain.specs.declared.cubes.Trit.{Trit}
 use Rattle.td_domain.specs.Pairs.{Pair}
 use Rattle.td_domain.specs.Cubes.{AllowsBits}
-use Rattle.td_domain.specs.Admits.{Admitted, IsAdmitted}
+use Rattle.td_domain.specs.Admits.{Admitted}
 use Rattle.td_certificate.specs.declared.certificate.Certificate.{Certificate}
 use Rattle.td_certificate.specs.declared.tree.Node.{Node}
 use Rattle.td_certificate.specs.Questions.{keep_by}
@@ -22,17 +22,14 @@ use Rattle.td_search.specs.declared.answers.Answer.{Answer}
 use Rattle.td_search.specs.declared.answers.Answer.TheVariants as answer
 use Rattle.td_search.specs.declared.answers.SearchFault.TheVariants as search
 use Rattle.td_search.specs.Problems.{Problem, problem_by, has_delay}
-use Rattle.td_search.specs.Answers.{IsSearchFault}
 use Rattle.td_search.specs.Written.{CanBeWritten}
 use Rattle.td_worst.specs.declared.method.Method.{Method}
 use Rattle.td_worst.specs.declared.fault.WorstFault.{WorstFault}
 use Rattle.td_worst.specs.declared.fault.WorstFault.TheVariants as fault
-use Rattle.td_worst.specs.Methods.{IsAnswerBy, IsSoundAnswer, IsBoundedAnswer}
+use Rattle.td_worst.specs.Methods.{IsAnswerBy, IsSoundAnswer}
 use Rattle.td_worst.specs.Faults.{IsWorstFault}
 use Rattle.td_worst.proofs.Outcomes.{outcome_by}
-use Rattle.td_request.specs.declared.question.Question.{Question}
 use Rattle.td_request.specs.declared.request.Search.{Search}
-use Rattle.td_request.specs.declared.request.Shown.{Shown}
 use Rattle.td_question.specs.Asking.{IsAsked}
 use Rattle.td_question.proofs.Questions.{asked_flips}
 use Rattle.td_lines.specs.declared.line.Line.{Line}
@@ -42,7 +39,6 @@ use Rattle.td_lines.specs.declared.line.Cause.TheVariants as why
 use Rattle.td_search.specs.declared.answers.Cause.{Cause as SearchCause}
 use Rattle.td_search.specs.declared.answers.Cause.TheVariants as cause
 use Rattle.td_answer.specs.declared.outcome.Outcome.{Outcome}
-use Rattle.td_answer.specs.declared.refusal.Refusal.{Refusal}
 use Rattle.td_answer.specs.declared.refusal.Refusal.TheVariants as refusal
 use Rattle.td_answer.specs.declared.status.Status.{Status}
 use Rattle.td_answer.specs.declared.certifying.Read.{Read}
@@ -52,10 +48,10 @@ use Rattle.td_answer.specs.Runs.{TellsPair, RunsPair}
 use Rattle.td_answer.specs.Dumps.{IsDumpWhere}
 use Rattle.td_answer.specs.Additions.{AddsLines}
 use Rattle.td_answer.specs.Certificates.{terms_in, tells_terms, certificate_in, CanBeTold}
-use Rattle.td_answer.specs.Certified.{AreTermsOf, IsShown, IsCertified}
+use Rattle.td_answer.specs.Certified.{AreTermsOf, IsCertified}
 use Rattle.td_answer.specs.Searches.{IsRefusedSearch}
 use Rattle.td_answer.specs.Tables.{found_of, IsTrueFound}
-use Rattle.td_answer.specs.Sentences.{HasDelay, HasFigure, IsExact, IsBetween, IsTrueWorst}
+use Rattle.td_answer.specs.Sentences.{HasFigure, IsTrueWorst}
 
 -- ---- the pair of an answer
 

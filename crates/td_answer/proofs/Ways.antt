@@ -13,24 +13,22 @@ use Rattle.td_gates.specs.Wave.{Wave, last}
 use Rattle.td_nets.specs.Netlist.{Name, Net, Low, Named, Netlist}
 use Rattle.td_nets.specs.Printed.{printed}
 use Rattle.td_circuit.specs.Numbering.{Numbered, setting, nets, IsNumbering}
-use Rattle.td_circuit.specs.NetValues.{net_wave}
-use Rattle.td_circuit.specs.Run.{Runs}
 use Rattle.td_circuit.proofs.Values.{value_at}
 use Rattle.td_domain.specs.Pairs.{Pair}
 use Rattle.td_run.specs.Runs.{NetWaves}
 use Rattle.td_path.specs.declared.links.Link as code
 use Rattle.td_path.specs.Links.{Link, IsChain, LeadTo}
-use Rattle.td_path.specs.Chains.{link_of, net_at, IsLatest, IsLatestNet}
+use Rattle.td_path.specs.Chains.{link_of, net_at, IsLatestNet}
 use Rattle.td_lines.specs.declared.line.Last.{Last}
 use Rattle.td_lines.specs.declared.line.Change.{Change}
 use Rattle.td_lines.specs.declared.line.Line.{Line}
 use Rattle.td_lines.specs.declared.line.Line.TheVariants as line
 use Rattle.td_request.specs.declared.request.Shown.{Shown}
 use Rattle.td_answer.specs.Names.{label}
-use Rattle.td_answer.specs.Runs.{last_of, change_of, driver_of, net_label, HasChanges, TellsChain, TellsOutput, TellsLatest, TellsLast, TellsWay, TellsRun, TellsPair, RunsPair, AreLasts, IsStill}
+use Rattle.td_answer.specs.Runs.{last_of, change_of, driver_of, net_label, HasChanges, TellsChain, TellsLast, TellsWay, TellsRun, TellsPair, RunsPair, AreLasts}
 use Rattle.td_answer.specs.Additions.{AddsLines, waves_in, NamesNet, AreNamed, IsOutputNamed, TellsNet, NeverChanges}
-use Rattle.td_answer.proofs.OutputNets.{OutputAt, output_at, named_number, one_name}
-use Rattle.td_answer.proofs.Adding.{nothing, some, two, mapped_more}
+use Rattle.td_answer.proofs.OutputNets.{output_at, one_name}
+use Rattle.td_answer.proofs.Adding.{nothing, two, mapped_more}
 
 -- ---- names of nets
 

@@ -1,11 +1,8 @@
 -- Parts that texts tell, and what they are joined into.
-use Rattle.std.proofs.Common.{◌≡◌, ◌≢◌, ◌∙◌, ◌⊎◌, ◌++◌, ◌<◌, ◌≤◌, ◌+◌, ℕ, Bool, true, List, [], ◌∷◌, length, take, get_or, refl, sym, ap, subst, inl, inr, arith, append-nil}
-use Rattle.std.specs.Prelude.{Option, Some, None, map, All, slice_get}
-use Rattle.std.specs.List.{AllZip, AllByRecursion}
+use Rattle.std.proofs.Common.{◌≡◌, ◌∙◌, ◌≤◌, ℕ, Bool, true, List, [], length, take, refl, sym, subst, inl, inr, arith, append-nil}
+use Rattle.std.specs.Prelude.{Option, All}
 use Rattle.std.specs.Borrow.{Bor}
-use Rattle.std.proofs.lemmas.List.{take_more, length-map, get_or-map}
-use Rattle.std.proofs.lemmas.List.Elements.{All-cons, All-from_recursion}
-use Rattle.td_gates.proofs.Places.{slice_get-some}
+use Rattle.std.proofs.lemmas.List.Elements.{All-from_recursion}
 use Rattle.td_reading.specs.declared.reading.Reading.{Reading}
 use Rattle.td_nets.specs.Netlist.{Netlist}
 use Rattle.td_nets.specs.WellFormed.{IsWellFormed}
@@ -16,20 +13,18 @@ use Rattle.td_domain.specs.declared.cubes.Trit.{Trit}
 use Rattle.td_certificate.specs.declared.certificate.Certificate.{Certificate}
 use Rattle.td_certificate.specs.declared.fault.CertFault.{CertFault}
 use Rattle.td_certificate.specs.Questions.{asking_of}
-use Rattle.td_certificate.specs.Accepts.{Accepts, setting_of, IsOfSize}
+use Rattle.td_certificate.specs.Accepts.{Accepts, setting_of}
 use Rattle.td_certificate.specs.Faults.{IsFault}
-use Rattle.td_certificate.specs.Spelling.{HasSpelling, Spells, latest}
+use Rattle.td_certificate.specs.Spelling.{HasSpelling, latest}
 use Rattle.td_certificate.proofs.Acceptance.{accepted_is_true}
 use Rattle.td_certificate.proofs.Texts.{spells_once}
 use Rattle.td_checker.specs.declared.verdict.CheckFault.{CheckFault}
 use Rattle.td_checker.specs.declared.verdict.CheckFault.TheVariants as check
-use Rattle.td_checker.specs.declared.verdict.Verdict.TheVariants.{Accepted}
-use Rattle.td_checker.specs.Checks.{IsCheckFault, HaveVerdict}
+use Rattle.td_checker.specs.Checks.{IsCheckFault}
 use Rattle.td_join.specs.Joining.{IsJoined}
 use Rattle.td_join.specs.Faults.{IsJoinFault}
 use Rattle.td_join.specs.declared.fault.JoinFault.{JoinFault}
 use Rattle.td_answer.specs.declared.refusal.Refusal.{Refusal}
-use Rattle.td_answer.specs.declared.refusal.Refusal.TheVariants as refusal
 use Rattle.td_request.specs.declared.request.Join.{Join}
 use Rattle.td_question.specs.Asking.{IsPinned}
 use Rattle.td_answer.specs.Joins.{TellsPart, TellsNoPart, AreParts, IsToJoin, IsUnjoinedFor, whole_pins}

@@ -1,7 +1,7 @@
 -- What is true of the outcome of `bound`.
-use Rattle.std.specs.Prelude.{◌≡◌, ◌≢◌, ◌⊎◌, ℕ, ◌<◌, Bool, true, false, List, [], ◌∷◌, ◌++◌, slice_get, Option, Some, None}
+use Rattle.std.specs.Prelude.{◌≡◌, ◌≢◌, ◌⊎◌, ℕ, ◌<◌, Bool, true, false, List, [], ◌∷◌, ◌++◌, slice_get, Option, Some}
 use Rattle.td_gates.specs.Wave.{Wave}
-use Rattle.td_nets.specs.Netlist.{Name, Net, Named, Netlist}
+use Rattle.td_nets.specs.Netlist.{Name, Net, Named}
 use Rattle.td_circuit.specs.Settings.{Setting}
 use Rattle.td_domain.specs.declared.cubes.Trit.{Trit}
 use Rattle.td_domain.specs.Bounds.{AreSignals, IsUpperBoundIn}

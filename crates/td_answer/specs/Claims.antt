@@ -3,7 +3,7 @@ use Rattle.std.specs.Prelude.{ℕ, List, [], ◌∷◌, ◌==◌, map, if◌then
 use Rattle.std.specs.List.{flat_map}
 use Rattle.td_certificate.specs.declared.certificate.Certificate.{Certificate}
 use Rattle.td_certificate.specs.declared.question.Version.{Version}
-use Rattle.td_certificate.specs.declared.question.Version.TheVariants.{First, Second, Third, Fourth}
+use Rattle.td_certificate.specs.declared.question.Version.TheVariants.{Fourth}
 use Rattle.td_certificate.specs.Questions.{Question}
 use Rattle.td_certificate.specs.Spelling.{Field, DefaultField, OutputField, FirstField, SecondField, HoldField, FlipsField, AtField, KeepField, fields_of, terms_of, version_in}
 use Rattle.td_certificate.specs.Plain.{says_more}

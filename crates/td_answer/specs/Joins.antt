@@ -1,12 +1,10 @@
 -- What is true of the outcome of `join`.
-use Rattle.std.specs.Prelude.{◌≡◌, ◌≢◌, ◌<◌, ◌≤◌, ◌⊎◌, ℕ, Bool, true, List, [], ◌∷◌, ◌++◌, All, take, map, length, get_or, slice_get, Option, Some, None}
-use Rattle.std.specs.Borrow.{Bor}
+use Rattle.std.specs.Prelude.{◌≡◌, ◌≢◌, ◌<◌, ◌≤◌, ◌⊎◌, ℕ, Bool, true, List, [], ◌++◌, All, take, map, length, get_or, slice_get, Option, Some, None}
 use Rattle.std.specs.Global.{Vec}
 use Rattle.std.specs.List.{AllZip}
 use Rattle.td_nets.specs.Netlist.{Netlist}
 use Rattle.td_reading.specs.declared.reading.Reading.{Reading}
 use Rattle.td_source.specs.Reads.{HasCircuit}
-use Rattle.td_source.specs.Faults.{IsSourceFault}
 use Rattle.td_domain.specs.declared.cubes.Trit.{Trit}
 use Rattle.td_certificate.specs.declared.certificate.Certificate.{Certificate}
 use Rattle.td_certificate.specs.declared.fault.CertFaultKind.TheVariants as certificate_kind
@@ -15,7 +13,6 @@ use Rattle.td_certificate.specs.Accepts.{Accepts, IsOfSize, setting_of}
 use Rattle.td_certificate.specs.Faults.{IsFault}
 use Rattle.td_certificate.specs.Spelling.{Spells, HasSpelling}
 use Rattle.td_checker.specs.declared.verdict.Verdict.TheVariants.{Accepted}
-use Rattle.td_checker.specs.declared.verdict.CheckFault.TheVariants as check
 use Rattle.td_checker.specs.Checks.{HaveVerdict, IsCheckFault}
 use Rattle.td_join.specs.declared.fault.JoinFault.{JoinFault}
 use Rattle.td_join.specs.declared.fault.JoinFault.TheVariants as fault
@@ -23,7 +20,6 @@ use Rattle.td_join.specs.Joining.{IsJoined, hull}
 use Rattle.td_join.specs.Faults.{IsJoinFault, renamed}
 use Rattle.td_request.specs.declared.request.Join.{Join}
 use Rattle.td_question.specs.Asking.{IsPinned, IsFaultOf, pin_words}
-use Rattle.td_lines.specs.declared.line.Line.{Line}
 use Rattle.td_answer.specs.Heads.{head_lines}
 use Rattle.td_answer.specs.Lines.{exact_lines}
 use Rattle.td_answer.specs.Verdicts.{IsWorstAsked}

@@ -1,13 +1,11 @@
 -- What a report says of a run.
-use Rattle.std.specs.Prelude.{◌≡◌, ◌≢◌, ◌⊎◌, ℕ, List, [], ◌∷◌, ◌++◌, map, length, codes, Bool, true, false, Option, Some, None}
+use Rattle.std.specs.Prelude.{◌≡◌, ◌⊎◌, ℕ, List, [], ◌∷◌, ◌++◌, map, codes, Bool, true, false, Option, Some, None}
 use Rattle.std.specs.List.{Contains}
 use Rattle.td_gates.specs.Table.{level_from}
 use Rattle.td_gates.specs.Wave.{Wave, last}
-use Rattle.td_gates.specs.declared.primitives.Level.{Level}
 use Rattle.td_nets.specs.Netlist.{Name, Net, Low, High, Named, Netlist}
-use Rattle.td_nets.specs.Printed.{printed}
 use Rattle.td_circuit.specs.Settings.{Setting}
-use Rattle.td_circuit.specs.Run.{Runs, latest_change}
+use Rattle.td_circuit.specs.Run.{Runs}
 use Rattle.td_domain.specs.Pairs.{Pair}
 use Rattle.td_path.specs.declared.links.Cause.{Cause}
 use Rattle.td_path.specs.Links.{Link, IsChain}

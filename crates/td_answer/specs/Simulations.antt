@@ -1,5 +1,5 @@
 -- What is true of the outcome of `sim`.
-use Rattle.std.specs.Prelude.{◌≡◌, ℕ, Bool, List, [], ◌∷◌, ◌++◌, map, is_some}
+use Rattle.std.specs.Prelude.{◌≡◌, ℕ, Bool, List, ◌∷◌, ◌++◌, map, is_some}
 use Rattle.td_gates.specs.Wave.{Wave}
 use Rattle.td_gates.specs.declared.primitives.Level.{Level}
 use Rattle.td_nets.specs.Netlist.{Net, Named, Netlist}

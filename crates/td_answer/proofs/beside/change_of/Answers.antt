@@ -1,4 +1,4 @@
-use Rattle.std.proofs.Common.{refl, ap}
+use Rattle.std.proofs.Common.{refl}
 use Rattle.td_nets.specs.Views.{name_of}
 use Rattle.td_answer.proofs.Ways.{change_named}
 use Rattle.td_answer.proofs.beside.change_of.Goals as goal

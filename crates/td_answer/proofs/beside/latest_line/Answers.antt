@@ -1,6 +1,5 @@
 use Rattle.std.proofs.Common.{refl, inl, inr}
 use Rattle.std.proofs.lemmas.Result.{IfOk-weaker}
-use Rattle.td_circuit.specs.Numbering.{nets}
 use Rattle.td_answer.specs.Additions.{waves_in}
 use Rattle.td_answer.proofs.Ways.{chain_named, tells_chain}
 use Rattle.td_answer.proofs.beside.latest_line.Goals as goal

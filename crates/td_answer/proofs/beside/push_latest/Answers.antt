@@ -1,8 +1,7 @@
 use Rattle.std.proofs.Common.{refl, true}
 use Rattle.std.proofs.lemmas.Result.{on_ok_weaker}
 use Rattle.td_circuit.specs.Numbering.{setting}
-use Rattle.td_lines.specs.declared.line.Line.{Line}
-use Rattle.std.proofs.Common.{List, [], ◌∷◌}
+use Rattle.std.proofs.Common.{[], ◌∷◌}
 use Rattle.td_answer.specs.Runs.{TellsWay}
 use Rattle.td_answer.specs.Additions.{waves_in}
 use Rattle.td_answer.proofs.Adding.{some}

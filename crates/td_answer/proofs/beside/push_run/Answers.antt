@@ -1,5 +1,5 @@
 use Rattle.std.proofs.lemmas.Result.{on_ok_weaker}
-use Rattle.td_answer.proofs.Ways.{pair_told, pair_untold}
+use Rattle.td_answer.proofs.Ways.{pair_told}
 use Rattle.td_answer.proofs.beside.push_run.Goals as goal
 
 pub returns : goal.returns

@@ -1,4 +1,4 @@
-use Rattle.std.proofs.Common.{ℕ, List, take}
+use Rattle.std.proofs.Common.{take}
 use Rattle.std.specs.List.{AllZip}
 use Rattle.td_answer.specs.Tables.{IsTrueRow}
 use Rattle.td_answer.proofs.each.rows.Given as goal

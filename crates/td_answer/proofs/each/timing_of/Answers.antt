@@ -1,4 +1,4 @@
-use Rattle.std.proofs.Common.{◌≡◌, ◌∙◌, ◌*◌, ap, length}
+use Rattle.std.proofs.Common.{◌∙◌, ◌*◌, ap}
 use Rattle.std.proofs.lemmas.Result.{err_from_is_err_and}
 use Rattle.td_circuit.specs.Numbering.{setting}
 use Rattle.td_worst.specs.Methods.{tree_of}

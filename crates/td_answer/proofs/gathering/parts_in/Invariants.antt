@@ -1,4 +1,4 @@
-use Rattle.std.proofs.Common.{ℕ, List, ◌≤◌, take, length}
+use Rattle.std.proofs.Common.{◌≤◌, take, length}
 use Rattle.std.specs.List.{AllZip}
 use Rattle.td_answer.specs.Joins.{texts_of, TellsPart}
 use Rattle.td_answer.proofs.gathering.parts_in.Given as goal

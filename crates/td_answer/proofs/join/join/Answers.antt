@@ -1,5 +1,4 @@
 use Rattle.std.proofs.Common.{refl, inl, inr}
-use Rattle.std.specs.Prelude.{map}
 use Rattle.std.proofs.lemmas.Result.{err_from_is_err_and}
 use Rattle.td_answer.specs.Joins.{texts_of, whole_pins}
 use Rattle.td_answer.proofs.Whole.{to_join, parts_spelled, whole_worst}

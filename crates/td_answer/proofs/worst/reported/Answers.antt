@@ -1,4 +1,3 @@
-use Rattle.std.proofs.Common.{subst}
 use Rattle.td_answer.proofs.worst.reported.Goals as goal
 
 pub returns : goal.returns

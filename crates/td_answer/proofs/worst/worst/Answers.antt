@@ -1,4 +1,4 @@
-use Rattle.std.proofs.Common.{inr, sym, ap, subst, refl, ◌∙◌}
+use Rattle.std.proofs.Common.{inr, subst, refl}
 use Rattle.std.proofs.lemmas.Result.{err_from_is_err_and}
 use Rattle.td_circuit.specs.Numbering.{setting}
 use Rattle.td_search.specs.Problems.{problem_by}
@@ -6,7 +6,7 @@ use Rattle.td_search.specs.declared.strategy.Strategy.{Strategy}
 use Rattle.td_worst.specs.Methods.{tree_of}
 use Rattle.td_worst.proofs.Outcomes.{outcome_by}
 use Rattle.td_question.proofs.Questions.{asked_held, asked_flips}
-use Rattle.td_answer.specs.Certificates.{certificate_in, CanBeTold}
+use Rattle.td_answer.specs.Certificates.{CanBeTold}
 use Rattle.std.specs.Prelude.{is_some}
 use Rattle.td_answer.specs.Lines.{pair_in}
 use Rattle.td_answer.specs.Runs.{RunsPair}
