@@ -1,5 +1,8 @@
 //! Requests about small netlists.
 
+ghost use Rattle.std.specs.Prelude.{IfOk};
+ghost use Rattle.td_answer.specs.Writing.{CanBeWritten};
+
 use crate::{Outcome, Refusal, Status, Texts, answer};
 use std::alloc::Global;
 use std::sync::Wait;
@@ -96,7 +99,9 @@ fn answered<R: Threads + Wait + Clock + Sync>(
     alloc: Global,
     command: Command<'static>,
     certificates: &[Vec<u8>],
-) -> Result<Outcome, Refusal<'static, 'static>> {
+) -> Result<Outcome, Refusal<'static, 'static>>
+    ensures { IfOk result CanBeWritten }
+{
     let Some(reading) = reading() else {
         return Err(Refusal::TooLong);
     };
