@@ -25,10 +25,6 @@ two One Other Both old mid new join first second = (
   join first.0 second.0 first.2 second.2,
 )
 
--- a text to which two were appended in turn
-pub two_pushed : (old front name first new : List ℕ) → first ≡ old ++ front → new ≡ first ++ name → new ≡ old ++ (front ++ name)
-two_pushed old front name first new is_first is_new = rw (is_new, is_first, append_assoc old front name) refl
-
 -- lists to which two, three or four were appended in turn
 pub two_appended : {A : Type 0} (old t new a b : List A) → t ≡ old ++ a → new ≡ t ++ b → new ≡ old ++ (a ++ b)
 two_appended old t new a b is_t is = rw (is, is_t, append_assoc old a b) refl

@@ -176,11 +176,6 @@ pub pair_told : (shown : Shown) (circuit : Numbered) (pair : Pair) (run : NetWav
     → AddsLines (TellsPair shown (setting circuit) pair) old new
 pair_told shown circuit pair run old new runs adds = (adds.0, adds.1, inr (waves_in circuit run, runs, adds.2))
 
--- nothing is asked
-pub pair_untold : (shown : Shown) (circuit : Numbered) (pair : Pair) (now : List Line) → shown.outputs ≡ false → shown.path ≡ false
-    → AddsLines (TellsPair shown (setting circuit) pair) now now
-pair_untold shown circuit pair now outputs path = nothing (TellsPair shown (setting circuit) pair) now (inl (outputs, path, refl))
-
 -- ---- when outputs change last
 
 -- one more row

@@ -21,8 +21,8 @@ abbrev pub AreTermsOf : List ℕ → Reading → Option Terms → Type 0
 AreTermsOf text reading None = Unit {0}
 AreTermsOf text reading (Some terms) = (output : Option ℕ) × IsOutputOf text reading output × (terms ≡ told_by reading output)
 
--- it is about what the request asks, tells the time that is printed and no other moment, is accepted,
--- and has a text
+-- it is about what the request asks, tells the time that is printed and no other moment, is
+-- accepted, and has a text
 pub record IsShown (text : List ℕ) (reading : Reading) (question : Question) (report : List Line) (certificate : Certificate) : Type 0 where
   pub netlist : Netlist
   pub asked : IsAsked text reading question (setting_of netlist certificate) certificate.question.admit

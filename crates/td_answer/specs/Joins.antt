@@ -47,7 +47,8 @@ pub record TellsPart (text : List ℕ) (reading : Reading) (netlist : Netlist) (
   pub sized : IsOfSize netlist part
   pub accepted : check ≡ true → HaveVerdict text reading spelled Accepted
 
--- why a text gives no part, another verdict only where parts are checked; the refusal names its file
+-- why a text gives no part, another verdict only where parts are checked; the refusal names its
+-- file
 abbrev pub TellsNoPart : List ℕ → Reading → Netlist → Bool → List ℕ → List ℕ → Refusal → Type 0
 TellsNoPart text reading netlist check name spelled refusal.OutOfMemory = Unit {0}
 TellsNoPart text reading netlist check name spelled (refusal.BadPart reported found) =
@@ -79,8 +80,8 @@ pub record HasNoPart (text : List ℕ) (reading : Reading) (netlist : Netlist) (
 
 -- ---- what is joined
 
--- the text means a netlist without a loop, the texts tell parts of a question about it, and these are
--- the pins of the whole
+-- the text means a netlist without a loop, the texts tell parts of a question about it, and these
+-- are the pins of the whole
 pub record IsToJoin (text : List ℕ) (reading : Reading) (asked : Join) (texts : List (List ℕ)) (netlist : Netlist) (parts : List Certificate) (pins : List Trit) : Type 0 where
   pub given : Option (List Trit)
   pub pinned : IsPinned text reading asked.inputs netlist given
@@ -91,10 +92,10 @@ pub record IsToJoin (text : List ℕ) (reading : Reading) (asked : Join) (texts 
 abbrev pub most_nodes : ℕ
 most_nodes = 10000000
 
--- The parts are joined into one certificate, which has a text and not too many nodes, and the report
--- tells its time, its pair and the number of its nodes, as that of a search does. Where each part is
--- accepted of a netlist, so is the whole. Where the parts are checked, its time is the worst delay of
--- the pairs that it asks about.
+-- The parts are joined into one certificate, which has a text and not too many nodes, and the
+-- report tells its time, its pair and the number of its nodes, as that of a search does. Where each
+-- part is accepted of a netlist, so is the whole. Where the parts are checked, its time is the
+-- worst delay of the pairs that it asks about.
 pub record IsJoinedTo (text : List ℕ) (reading : Reading) (asked : Join) (texts : List (List ℕ)) (outcome : Outcome) (whole : Certificate) : Type 0 where
   pub netlist : Netlist
   pub parts : List Certificate

@@ -62,8 +62,8 @@ HasParts options other = ⊥
 -- The report has a line for each cube. There are at most as many cubes as parts are asked for, at
 -- least one, and fewer only where a search would split none of them. They share out the admitted
 -- pairs of what the request asks of the text: each pair lies in exactly one cube, and each cube has
--- one. No cube has a pair that isn't one of the pins. The options by place say what all words of the
--- request say together.
+-- one. No cube has a pair that isn't one of the pins. The options by place say what all words of
+-- the request say together.
 pub record IsTrueParts (text : List ℕ) (reading : Reading) (asked : Parts) (outcome : Outcome) : Type 0 where
   pub setting : Setting
   pub admit : Admitted

@@ -32,14 +32,15 @@ pub record IsSimulated (text : List ℕ) (reading : Reading) (inputs : Inputs) (
   pub pair : IsPair text reading inputs from to setting first second
   pub runs : Runs setting first second waves
 
--- Internal: the run is one of the circuit, and the latest change of its outputs is that of their nets.
+-- Internal: the run is one of the circuit, and the latest change of its outputs is that of their
+-- nets.
 pub record HasRun (circuit : Numbered) (run : NetWaves) : Type 0 where
   pub written : writes.IsRunFor circuit run
   pub followed : chains.IsRunFor circuit run
   pub time : latest_change (output_waves run) ≡ latest_change (map (λ name. net_wave (nets circuit) run.waves (Named name)) circuit.netlist.outputs)
 
--- the report has the head, when each output changes last in the run, the latest of these moments, and
--- where it is asked for, which output changes then
+-- the report has the head, when each output changes last in the run, the latest of these moments,
+-- and where it is asked for, which output changes then
 pub record IsRunReport (outputs : Bool) (netlist : Netlist) (waves : Net → Wave) (report : List Line) : Type 0 where
   pub lasts : List Line
   pub are_lasts : AreLasts (map (last_of waves) netlist.outputs) lasts

@@ -80,15 +80,16 @@ abbrev pub table_ending : List Row → Status
 table_ending [] = status.Done
 table_ending (row ∷ rows) = cond (is_exact row.found) (table_ending rows) status.Between
 
--- Internal: what is known before the first search, the head of the report and the names of the outputs.
+-- Internal: what is known before the first search, the head of the report and the names of the
+-- outputs.
 pub record IsOutline (text : List ℕ) (reading : Reading) (report : List Line) (names : List (List ℕ)) : Type 0 where
   pub netlist : Netlist
   pub circuit : HasCircuit text reading netlist
   pub head : report ≡ head_lines netlist
   pub names_are : names ≡ map label netlist.outputs
 
--- The text means a netlist without a loop, and the report has a true row for each of its outputs, in
--- order. It ends with status 0 just where all of them are exact.
+-- The text means a netlist without a loop, and the report has a true row for each of its outputs,
+-- in order. It ends with status 0 just where all of them are exact.
 pub record IsTrueTable (text : List ℕ) (reading : Reading) (search : Search) (outcome : Outcome) : Type 0 where
   pub netlist : Netlist
   pub circuit : HasCircuit text reading netlist

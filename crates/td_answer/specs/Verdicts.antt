@@ -53,16 +53,16 @@ abbrev pub IsWorstAsked : Setting → Asking → ℕ → Type 0
 IsWorstAsked setting asking time = IsReached setting asking time × IsBoundOf setting asking time
 
 -- The line is `accepted T`, and T is the worst delay of the pairs that are asked about; or it is
--- `accepted between T H`, some such pair has the delay T, and none changes an output after H, which is
--- later.
+-- `accepted between T H`, some such pair has the delay T, and none changes an output after H, which
+-- is later.
 abbrev pub IsTrueClaim : Setting → Asking → Line → Type 0
 IsTrueClaim setting asking (line.Accepted time) = IsWorstAsked setting asking time
 IsTrueClaim setting asking (line.AcceptedBetween time high) = IsReached setting asking time × (time < high) × IsBoundOf setting asking high
 IsTrueClaim setting asking other = ⊥
 
--- The certificate is accepted: its text spells it, and of the pairs that it asks about, in the netlist
--- that is read of the text and with its moments, the first line is true. The others say what it is
--- about.
+-- The certificate is accepted: its text spells it, and of the pairs that it asks about, in the
+-- netlist that is read of the text and with its moments, the first line is true. The others say
+-- what it is about.
 pub record IsAccepted (text : List ℕ) (reading : Reading) (spelled : List ℕ) (report : List Line) : Type 0 where
   pub netlist : Netlist
   pub circuit : HasCircuit text reading netlist
@@ -78,7 +78,8 @@ pub record IsRejected (text : List ℕ) (reading : Reading) (spelled : List ℕ)
   pub has : HaveVerdict text reading spelled found
   pub is : AreRefusedLines found report
 
--- the request ends with status 0 where the certificate is accepted, and with no other where it isn't
+-- the request ends with status 0 where the certificate is accepted, and with no other where it
+-- isn't
 abbrev pub IsTrueVerdict : List ℕ → Reading → List ℕ → List Line → Status → Type 0
 IsTrueVerdict text reading spelled report status.Done = IsAccepted text reading spelled report
 IsTrueVerdict text reading spelled report status.Rejected = IsRejected text reading spelled report

@@ -14,8 +14,8 @@ use td_search::SearchFault;
 use td_source::SourceFault;
 use td_worst::WorstFault;
 
-/// Why a request has no outcome. What is borrowed from the netlist's text lives as long as `'n`, and
-/// words of the request, as names of files, as long as `'w`.
+/// Why a request has no outcome. What is borrowed from the netlist's text lives as long as `'n`,
+/// and words of the request, as names of files, as long as `'w`.
 #[derive(Drop)]
 pub enum Refusal<'n, 'w> {
     OutOfMemory,
