@@ -102,7 +102,7 @@ def call():
     words.add_argument("--instructions", action="store_true",
                        help="of `speed` and `commands`, by valgrind")  # fmt: skip
     words.add_argument("--clone", metavar="FOLDER",
-                       help="the repository of `first`, this one where it is left out")  # fmt: skip
+                       help="the repository of `first`, this one if left out")  # fmt: skip
     words.add_argument("--unproved", action="store_true",
                        help="say that PROGRAM was compiled without proofs")  # fmt: skip
     words.add_argument("--write", action="store_true")

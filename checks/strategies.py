@@ -66,7 +66,7 @@ if __name__ == "__main__":
         "--workers": {
             "default": "2",
             "metavar": "N,N,..",
-            "help": "by how many workers `lead` searches (2 where left out)",
+            "help": "by how many workers `lead` searches (2 if left out)",
         }
     }
     sys.exit(check.main(work, __doc__, CASES, shares, options))

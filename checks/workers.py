@@ -95,7 +95,7 @@ if __name__ == "__main__":
         "--workers": {
             "default": "4,64",
             "metavar": "N,N,..",
-            "help": "how many workers beside one (4,64 where left out)",
+            "help": "how many workers beside one (4,64 if left out)",
         }
     }
     sys.exit(check.main(work, __doc__, CASES, shares, options))

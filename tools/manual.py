@@ -84,7 +84,7 @@ def facts(entry):
     if entry.choices:
         text += f"; one of {', '.join(f'`{it}`' for it in entry.choices)}"
     if entry.default:
-        text += f"; {entry.default} where left out"
+        text += f"; {entry.default} if left out"
     return prose(text + ".")
 
 

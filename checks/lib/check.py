@@ -131,14 +131,14 @@ def call(doc, cases, options):
         "program", nargs="?", default=places.PROGRAM, metavar="PROGRAM", help="a built tdelay"
     )
     parser.add_argument(
-        "--seed", type=int, default=1, metavar="S", help="of all random choices (1 where left out)"
+        "--seed", type=int, default=1, metavar="S", help="of all random choices (1 if left out)"
     )
     parser.add_argument(
         "--cases",
         type=int,
         default=cases,
         metavar="N",
-        help=f"the most cases that are tried ({cases or 'all'} where left out)",
+        help=f"the most cases that are tried ({cases or 'all'} if left out)",
     )
     for name, how in options.items():
         parser.add_argument(name, **how)

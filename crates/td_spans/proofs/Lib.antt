@@ -20,3 +20,5 @@ pub mod Steps
 pub mod Walks
 pub mod Completing
 pub mod Stretches
+pub mod Merges
+pub mod Tellings

@@ -6,6 +6,7 @@ use Rattle.td_spans.specs.Sure.{IsSure}
 use Rattle.std.specs.Prelude.{nat_le, not}
 use Rattle.std.proofs.lemmas.Bool.{cases_lt, leb-true, le-leb, lt-leb, lt-ltb, le-ltb, ltb-true}
 use Rattle.td_gates.specs.declared.primitives.Level.{Level}
+use Rattle.td_gates.specs.declared.timing.Delay.{Delay}
 use Rattle.td_gates.specs.Table.{table, level_eq, level_from}
 use Rattle.td_circuit.specs.Numbering.{NumberedGate}
 use Rattle.td_propagation.specs.declared.literal.Literal.{Literal}
@@ -62,7 +63,7 @@ stretch_all variables times last place n (literal ∷ body) low is =
     let here = by_saying last place n (says variables times (negation literal)) low rest.0 in
     (here.0, λ net. here.1 net (trit_by variables times body net n) (trit_by variables times body net place) (rest.1 net))
 
-before_next : (last : Option ℕ) (n : ℕ) → is_before n (next_after last) ≡ true → is_by n last ≡ true
+pub before_next : (last : Option ℕ) (n : ℕ) → is_before n (next_after last) ≡ true → is_by n last ≡ true
 before_next None n is = refl
 before_next (Some last) n is = let less = ltb-true n (last + 1) is in le-leb n last (omega arith)
 
@@ -137,66 +138,73 @@ no_place known coming going saying b is not n low by = go saying.last refl
         let less = leb-true n last (ap (is_by n) (sym is_last) ∙ by) in
         let wrong : false ≡ true = sym not ∙ is ∙ ap (is_by saying.first) is_last ∙ le-leb saying.first last (omega arith) in cc
 
-module _ (variables : List Variable) (times : List Times) (gate : NumberedGate) (body : List Literal) (saying : Saying) (coming going place : ℕ) (walk walk' : Walk)
-    (passes covered some_place : Bool) (last next : Option ℕ) (coming_is : coming ≡ steps_to gate.delay saying.level) (going_is : going ≡ steps_to gate.delay (not saying.level))
-    (some : 1 ≤ coming) (some' : 1 ≤ going) (last_is : last ≡ stretch_last variables times None place body) (next_is : next ≡ next_after last)
-    (passes_is : passes ≡ is_known variables times gate body saying.level place) (walk_is : walk' ≡ walked walk passes place next coming going)
-    (is : IsUnderWay (is_known variables times gate body saying.level) (steps_to gate.delay saying.level) (steps_to gate.delay (not saying.level)) place walk saying)
+-- the place is before the next one, where literals say where a stretch ends
+pub before_next_place : (variables : List Variable) (times : List Times) (body : List Literal) (place : ℕ) (last next : Option ℕ)
+    → last ≡ stretch_last variables times None place body → next ≡ next_after last → is_before place next ≡ true
+before_next_place variables times body place last next last_is next_is =
+    ap (is_before place) (next_is ∙ ap next_after last_is) ∙ far_next place (stretch_last variables times None place body) (far_all variables times place None body tt)
+
+-- a stretch that literals say
+pub stretch_by : (variables : List Variable) (times : List Times) (gate : NumberedGate) (body : List Literal) (level : Bool) (place : ℕ) (last next : Option ℕ) (passes : Bool)
+    → last ≡ stretch_last variables times None place body → next ≡ next_after last → passes ≡ is_known variables times gate body level place
+    → IsStretch (is_known variables times gate body level) passes place next
+stretch_by variables times gate body level place last next passes last_is next_is passes_is =
+    rw (next_is, last_is, passes_is) (known_same variables times gate body level place)
+
+module _ (known : ℕ → Bool) (delay : Delay) (saying : Saying) (coming going place : ℕ) (walk walk' : Walk)
+    (passes covered some_place : Bool) (next : Option ℕ) (coming_is : coming ≡ steps_to delay saying.level) (going_is : going ≡ steps_to delay (not saying.level))
+    (some : 1 ≤ coming) (some' : 1 ≤ going) (before : is_before place next ≡ true) (stretch : IsStretch known passes place next)
+    (walk_is : walk' ≡ walked walk passes place next coming going)
+    (is : IsUnderWay known (steps_to delay saying.level) (steps_to delay (not saying.level)) place walk saying)
     (covered_is : covered ≡ is_covered walk'.sure saying going) (place_is : some_place ≡ is_by saying.first saying.last) (has_place : some_place ≡ true) where
-  some_come : 1 ≤ steps_to gate.delay saying.level
+  some_come : 1 ≤ steps_to delay saying.level
   some_come = rw coming_is at some
 
-  some_go : 1 ≤ steps_to gate.delay (not saying.level)
+  some_go : 1 ≤ steps_to delay (not saying.level)
   some_go = rw going_is at some'
 
-  before : is_before place next ≡ true
-  before = ap (is_before place) (next_is ∙ ap next_after last_is) ∙ far_next place (stretch_last variables times None place body) (far_all variables times place None body tt)
+  walk_so : walk' ≡ walked walk passes place next (steps_to delay saying.level) (steps_to delay (not saying.level))
+  walk_so = walk_is ∙ ap (λ (k : ℕ). walked walk passes place next k going) coming_is ∙ ap (λ (k : ℕ). walked walk passes place next (steps_to delay saying.level) k) going_is
 
-  stretch : IsStretch (is_known variables times gate body saying.level) passes place next
-  stretch = rw (next_is, last_is, passes_is) (known_same variables times gate body saying.level place)
-
-  walk_so : walk' ≡ walked walk passes place next (steps_to gate.delay saying.level) (steps_to gate.delay (not saying.level))
-  walk_so = walk_is ∙ ap (λ (k : ℕ). walked walk passes place next k going) coming_is ∙ ap (λ (k : ℕ). walked walk passes place next (steps_to gate.delay saying.level) k) going_is
-
-  covered_so : covered ≡ is_covered (walked walk passes place next (steps_to gate.delay saying.level) (steps_to gate.delay (not saying.level))).sure saying (steps_to gate.delay (not saying.level))
+  covered_so : covered ≡ is_covered (walked walk passes place next (steps_to delay saying.level) (steps_to delay (not saying.level))).sure saying (steps_to delay (not saying.level))
   covered_so = covered_is ∙ ap (λ (w : Walk). is_covered w.sure saying going) walk_so
-      ∙ ap (is_covered (walked walk passes place next (steps_to gate.delay saying.level) (steps_to gate.delay (not saying.level))).sure saying) going_is
+      ∙ ap (is_covered (walked walk passes place next (steps_to delay saying.level) (steps_to delay (not saying.level))).sure saying) going_is
 
   -- what is covered is sure
   pub all_sure : covered ≡ true
-      → IsSureOf (is_known variables times gate body saying.level) (steps_to gate.delay saying.level) (steps_to gate.delay (not saying.level)) saying
+      → IsSureOf known (steps_to delay saying.level) (steps_to delay (not saying.level)) saying
   all_sure holds n low by =
-      covered_sure (is_known variables times gate body saying.level) (steps_to gate.delay saying.level) (steps_to gate.delay (not saying.level))
-      some_come some_go (walked walk passes place next (steps_to gate.delay saying.level) (steps_to gate.delay (not saying.level))).sure saying
-      (to_sure (is_known variables times gate body saying.level) (steps_to gate.delay saying.level) (steps_to gate.delay (not saying.level)) next
-      (walked walk passes place next (steps_to gate.delay saying.level) (steps_to gate.delay (not saying.level)))
-      (walked_right (is_known variables times gate body saying.level) (steps_to gate.delay saying.level) (steps_to gate.delay (not saying.level)) some_come some_go
+      covered_sure known (steps_to delay saying.level) (steps_to delay (not saying.level))
+      some_come some_go (walked walk passes place next (steps_to delay saying.level) (steps_to delay (not saying.level))).sure saying
+      (to_sure known (steps_to delay saying.level) (steps_to delay (not saying.level)) next
+      (walked walk passes place next (steps_to delay saying.level) (steps_to delay (not saying.level)))
+      (walked_right known (steps_to delay saying.level) (steps_to delay (not saying.level)) some_come some_go
       walk passes place next before stretch is.right))
       (sym covered_so ∙ holds) n low by
 
   -- where nothing is left, the saying isn't sure
   pub none_sure : covered ≡ false → next ≡ None
-      → IsSureOf (is_known variables times gate body saying.level) (steps_to gate.delay saying.level) (steps_to gate.delay (not saying.level)) saying → ⊥
+      → IsSureOf known (steps_to delay saying.level) (steps_to delay (not saying.level)) saying → ⊥
   none_sure away =
-      not_sure (is_known variables times gate body saying.level) (steps_to gate.delay saying.level) (steps_to gate.delay (not saying.level)) some_come some_go
+      not_sure known (steps_to delay saying.level) (steps_to delay (not saying.level)) some_come some_go
       walk passes place next before is.low stretch is.right.run is.whole saying (sym place_is ∙ has_place) is.opens (sym covered_so ∙ away)
 
   -- the walk goes on
   pub way_on : covered ≡ false → (later : ℕ) → next ≡ Some later → later ≤ TOP
-      → IsUnderWay (is_known variables times gate body saying.level) (steps_to gate.delay saying.level) (steps_to gate.delay (not saying.level)) later walk' saying
+      → IsUnderWay known (steps_to delay saying.level) (steps_to delay (not saying.level)) later walk' saying
   way_on away later is_later top =
       let before' : is_before place (Some later) ≡ true = ap (is_before place) (sym is_later) ∙ before in
-      let stretch' : IsStretch (is_known variables times gate body saying.level) passes place (Some later) =
-      subst (IsStretch (is_known variables times gate body saying.level) passes place) is_later stretch in
-      let walk_later : walk' ≡ walked walk passes place (Some later) (steps_to gate.delay saying.level) (steps_to gate.delay (not saying.level)) =
-      walk_so ∙ ap (λ (o : Option ℕ). walked walk passes place o (steps_to gate.delay saying.level) (steps_to gate.delay (not saying.level))) is_later in
-      subst (λ (w : Walk). IsUnderWay (is_known variables times gate body saying.level) (steps_to gate.delay saying.level) (steps_to gate.delay (not saying.level)) later w saying) (sym walk_later)
+      let stretch' : IsStretch known passes place (Some later) =
+      subst (IsStretch known passes place) is_later stretch in
+      let walk_later : walk' ≡ walked walk passes place (Some later) (steps_to delay saying.level) (steps_to delay (not saying.level)) =
+      walk_so ∙ ap (λ (o : Option ℕ). walked walk passes place o (steps_to delay saying.level) (steps_to delay (not saying.level))) is_later in
+      subst (λ (w : Walk). IsUnderWay known (steps_to delay saying.level) (steps_to delay (not saying.level)) later w saying) (sym walk_later)
       (record {
-        right = walked_right (is_known variables times gate body saying.level) (steps_to gate.delay saying.level) (steps_to gate.delay (not saying.level)) some_come some_go
+        right = walked_right known (steps_to delay saying.level) (steps_to delay (not saying.level)) some_come some_go
             walk passes place (Some later) before' stretch' is.right;
-        whole = walked_whole (is_known variables times gate body saying.level) (steps_to gate.delay saying.level) (steps_to gate.delay (not saying.level)) some_come some_go
+        whole = walked_whole known (steps_to delay saying.level) (steps_to delay (not saying.level)) some_come some_go
             walk passes place later before' is.low stretch' is.right.run is.whole;
-        opens = open_on (is_known variables times gate body saying.level) (steps_to gate.delay saying.level) (steps_to gate.delay (not saying.level)) some_come some_go
+        opens = open_on known (steps_to delay saying.level) (steps_to delay (not saying.level)) some_come some_go
             walk passes place next before is.low stretch is.right.run is.whole saying (sym place_is ∙ has_place) is.opens (sym covered_so ∙ away) later is_later;
         low = top;
       })

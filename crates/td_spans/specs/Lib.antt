@@ -19,6 +19,7 @@ pub mod Hints
 pub mod Named
 pub mod Walking
 pub mod Stretching
+pub mod Pieces
 pub mod Refuting
 pub mod Opening
 pub mod States

@@ -1,4 +1,4 @@
-//! Clauses of a gate: where its output surely is at a level.
+//! Where a gate's output surely is at a level, place by place.
 
 ghost use Rattle.std.specs.Prelude.{◌≡◌, ◌≤◌, ◌<◌, ◌+◌, ◌↔◌, IsTrue, IfSome, not, map, length, unwrap_or, None as Nothing};
 ghost use Rattle.td_gates.specs.declared.primitives.Level.{Level as LevelModel};
@@ -6,18 +6,16 @@ ghost use Rattle.td_gates.specs.Table.{level_eq, level_from, TakesInputs};
 ghost use Rattle.td_gates.specs.Counts.{count_at, counts_of};
 ghost use Rattle.td_circuit.specs.Views.{gate_of};
 ghost use Rattle.td_spans.specs.Targets.{steps_to};
-ghost use Rattle.td_spans.specs.Clauses.{constant_trit, trit_from, trit_by, is_known, IsSureOf, IsGateClause};
+ghost use Rattle.td_spans.specs.Clauses.{constant_trit, trit_from, trit_by, is_known, IsSureOf};
 ghost use Rattle.td_spans.specs.Stretching.{nearer, last_before, last_within, last_by, stretch_last, next_after};
-ghost use Rattle.td_spans.specs.Named.{IsByGate};
 
-use crate::names::place_of;
-use crate::rules::{gate_at, steps_to};
+use crate::rules::steps_to;
 use crate::sayings::{covers, is_by, says};
 use crate::times::Times;
 use crate::variable::{Saying, Variable};
 use crate::variables::Variables;
 use crate::walk::{Walk, is_covered, walked};
-use td_circuit::{Circuit, Gate};
+use td_circuit::Gate;
 use td_gates::{Counts, Level, eval_counts};
 use td_propagation::Literal;
 
@@ -177,8 +175,8 @@ fn stretch_last(
     last
 }
 
-// The place after the last one.
-fn next_after(last: Option<u64>) -> Option<u128>
+/// The place after the last one.
+pub fn next_after(last: Option<u64>) -> Option<u128>
     ensures next { result ≡ next_after last }
     ensures few { IfSome result (λ next. next ≤ 18446744073709551616) }
 {
@@ -188,8 +186,8 @@ fn next_after(last: Option<u64>) -> Option<u128>
     }
 }
 
-// Whether a gate's output surely is as a saying says, where all of these literals are false.
-fn is_sure(
+/// Whether a gate's output surely is as a saying says, where all of these literals are false.
+pub fn is_sure(
     variables: &Variables,
     times: &[Times],
     gate: &Gate,
@@ -222,41 +220,4 @@ fn is_sure(
             Some(later) => place = later,
         }
     }
-}
-
-// Whether a gate gives the clause with this head.
-fn is_gate_clause(
-    circuit: &Circuit,
-    variables: &Variables,
-    times: &[Times],
-    head: Literal,
-    body: &[Literal],
-) -> bool
-    ensures { IsTrue result ↔ IsGateClause circuit.now variables.now times.now head body.now }
-{
-    match says(variables, times, head) {
-        None => false,
-        Some(saying) => match place_of(circuit, saying.net) {
-            None => false,
-            Some(place) => is_sure(variables, times, gate_at(circuit, place), body, saying),
-        },
-    }
-}
-
-/// Whether a gate gives the clause.
-pub fn is_by_gate(
-    circuit: &Circuit,
-    variables: &Variables,
-    times: &[Times],
-    clause: &[Literal],
-) -> bool
-    ensures { IsTrue result ↔ IsByGate circuit.now variables.now times.now clause.now }
-{
-    if clause.is_empty() {
-        return false;
-    }
-    if clause.len() > 4096 {
-        return false;
-    }
-    is_gate_clause(circuit, variables, times, clause[0], &clause[1..])
 }

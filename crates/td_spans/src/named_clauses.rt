@@ -8,7 +8,8 @@ ghost use Rattle.td_spans.specs.Clauses.{settled_net, trit_if, settled_trit};
 ghost use Rattle.td_spans.specs.Named.{settled_of, IsByTableOf, IsByTable, two_of, by_two, by_net, has_variables, IsBy, IsNamed};
 
 use crate::condition::is_keep_clause;
-use crate::gate_clauses::{constant_trit, is_by_gate, is_level, level_from};
+use crate::gate_clauses::{constant_trit, is_level, level_from};
+use crate::named_gates::is_by_gate;
 use crate::names::place_of;
 use crate::net_clauses::is_net_clause;
 use crate::pair_clauses::is_pairs_clause;
@@ -205,7 +206,7 @@ fn is_by(
     ensures { IfOk result (λ answer. IsTrue answer ↔ IsBy circuit.now question.now cube.now variables.now times.now reason clause.now) }
 {
     match reason {
-        Reason::Gate => Ok(is_by_gate(circuit, variables, times, clause)),
+        Reason::Gate => is_by_gate(alloc, circuit, variables, times, clause),
         Reason::Table => Ok(is_by_table(circuit, variables, clause)),
         Reason::Net => Ok(is_by_net(variables, times, clause)),
         Reason::Pairs => is_pairs_clause(

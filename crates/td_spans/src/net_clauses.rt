@@ -27,8 +27,8 @@ fn is_none(last: Option<u64>) -> bool
     }
 }
 
-// Whether no place by the first is after the second.
-fn is_within(last: Option<u64>, end: Option<u64>) -> bool
+/// Whether no place by the first is after the second.
+pub fn is_within(last: Option<u64>, end: Option<u64>) -> bool
     ensures { result ≡ is_within last end }
 {
     match end {

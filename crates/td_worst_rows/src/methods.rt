@@ -29,6 +29,10 @@ and #5 g0(c, a, s); or #1 g1(d, c, b); and #7 g2(e, d, t); or #1 g3(y, e, s); en
 const RECONVERGENT: &str = "module t (a, b, y); input a, b; output y;
     buf #1 p1(p,b); buf #1 p2(q,b); xor #3 g(y,a,p,q); endmodule";
 
+/// Two gates that are slow one way each: a change passes 6 later, by arrival windows alone 10.
+const INVERTERS: &str =
+    "module m(a, y); input a; output y; not #(1,5) n(b, a); not #(1,5) g(y, b); endmodule";
+
 /// The circuit of a netlist. The error is out of memory, or a text that is refused.
 fn circuit_of(alloc: Global, text: &str) -> Result<Circuit, AllocError> {
     let unit = Delay { rise: 1, fall: 1 };
@@ -112,6 +116,14 @@ fn methods_agree(rt: HostRuntime) -> Result<(), Fail> {
 fn refuted_leaf(rt: HostRuntime) -> Result<(), Fail> {
     let answer = answered(&rt, rt.alloc(), FALSE_WAY, Method::Refute, 1_000_000)?;
     assert_eq!(&rt; exact(&answer), Some((9, 1, true)));
+    Ok(())
+}
+
+/// Where a pair is as late as the bound by edges, no step is needed.
+#[test]
+fn edges_come_before_steps(rt: HostRuntime) -> Result<(), Fail> {
+    let answer = answered(&rt, rt.alloc(), INVERTERS, Method::Refute, 1)?;
+    assert_eq!(&rt; exact(&answer), Some((6, 1, false)));
     Ok(())
 }
 
