@@ -22,7 +22,7 @@ use Rattle.td_gates.specs.declared.primitives.Level.{Level}
 use Rattle.td_question.specs.declared.vector.VectorWord.{VectorWord}
 use Rattle.td_question.specs.declared.vector.VectorWord.TheVariants.{At}
 use Rattle.td_question.specs.Vectors.{level_character, SpellsVector, VectorWords, IsFirstBad, AreMomentsOf, GivesMoments}
-use Rattle.td_question.specs.Asking.{most_flips, Admits, AreAdmitted, SayTogether, IsAsked, IsCube, IsPair, Pins, ArePinned, AreSpelled, IsWordFault, IsFaultOf, IsFaultOfAny, pair_words, placed_words}
+use Rattle.td_question.specs.Asking.{most_flips, Admits, AreAdmitted, SayTogether, IsAsked, IsCube, ArePinsOf, IsPinned, IsPair, Pins, ArePinned, AreSpelled, IsWordFault, IsFaultOf, IsFaultOfAny, pair_words, placed_words}
 use Rattle.td_question.specs.declared.fault.QuestionFault.{QuestionFault}
 use Rattle.td_question.specs.declared.fault.QuestionFault.TheVariants as fault
 use Rattle.td_question.proofs.Vectors.{given-length}
@@ -56,6 +56,12 @@ are_admitted circuit timed count words flips admit moments counts admits are tim
       moments = subst (λ count. AreMomentsOf count words.at moments) counts are;
       admits = subst (λ count. Admits count words flips admit) counts admits;
     })
+
+-- the same words say so of the same netlist
+pub say_so : (inputs : Inputs) (one other : Netlist) (these those : Placed) → one ≡ other → these ≡ those → SayTogether other inputs those
+    → SayTogether one inputs these
+say_so inputs one other these those same are together =
+    subst (λ (n : Netlist). SayTogether n inputs these) (sym same) (subst (λ (words : Placed). SayTogether other inputs words) (sym are) together)
 
 module _ (text : List ℕ) (reading : Reading) (question : Question) where
   pub is_asked : (netlist : Netlist) (words : Placed) (setting : Setting) (admit : Admitted) → HasCircuit text reading netlist
@@ -98,6 +104,12 @@ module _ (text : List ℕ) (reading : Reading) (inputs : Inputs) (netlist : Netl
     moments = subst (λ (n : Netlist). AreMomentsOf (length n.inputs) words.at setting.moments) (sym are.is) are.moments;
     pins = subst (λ (n : Netlist). Pins (length n.inputs) words cube) (sym are.is) are.pins;
   }
+
+  pub is_pinned : (circuits : Numbered) (other : Numbered) (given : Option (List Trit)) → circuits.netlist ≡ netlist → other ≡ circuits
+      → ArePinsOf (length netlist.inputs) words given → IsPinned text reading inputs other.netlist given
+  is_pinned circuits other given same is are =
+      subst (λ (n : Netlist). IsPinned text reading inputs n given) (sym (ap (λ (c : Numbered). c.netlist) is ∙ same))
+      (record { circuit = circuit; words = words; together = together; pins = are })
 
   pub is_pair : (from to : List ℕ) (setting : Setting) (first second : List Level) → AreSpelled netlist words from to setting first second
       → IsPair text reading inputs from to setting first second

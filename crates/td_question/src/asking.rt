@@ -3,8 +3,9 @@
 ghost use Rattle.std.specs.Prelude.{◌≡◌, ◌<◌, ◌^◌, length, IfOk, IfErr};
 ghost use Rattle.td_circuit.specs.Numbering.{setting};
 ghost use Rattle.td_inputs.specs.Placings.{words_by_place};
-ghost use Rattle.td_question.specs.Asking.{most_flips, Admits, AreAdmitted, IsAsked, pair_words, placed_words, IsWordFault, IsQuestionFault};
+ghost use Rattle.td_question.specs.Asking.{most_flips, Admits, AreAdmitted, IsAsked, SayTogether, pair_words, placed_words, IsWordFault, IsQuestionFault};
 ghost use Rattle.td_question.specs.Vectors.{IsFirstBad};
+ghost use Rattle.td_source.specs.Reads.{IsOutputOf};
 
 use crate::fault::QuestionFault;
 use crate::placed::{Placed, placed_on};
@@ -22,6 +23,10 @@ use td_request::Question;
 pub struct Asked {
     pub circuit: Circuit,
     pub admit: Admit,
+    /// The number of the output that is asked about, where one is named.
+    pub output: Option<usize>,
+    /// The words by place that say what all words about inputs say together.
+    pub words: ByPlace,
 }
 
 /// What a question asks of a text.
@@ -36,12 +41,18 @@ pub fn question_of<'a, 'w>(
     question: &Question<'w>,
 ) -> Result<Asked, QuestionFault<'a, 'w>>
     ensures asked { IfOk result (λ asked. IsAsked text.now reading.now question.now (setting asked.circuit) asked.admit) }
+    ensures output { IfOk result (λ asked. IsOutputOf text.now reading.now asked.output) }
+    ensures together { IfOk result (λ asked. SayTogether asked.circuit.netlist question.now.inputs (words_by_place asked.words)) }
     ensures fault { IfErr result (IsQuestionFault text.now reading.now question.now) }
 {
     match placed_on(alloc, text, reading, &question.inputs) {
         Ok(placed) => {
-            let Placed { circuit, words } = placed;
-            asked_by(alloc, circuit, &words, question.flips)
+            let Placed {
+                circuit,
+                output,
+                words,
+            } = placed;
+            asked_by(alloc, circuit, output, words, question.flips)
         }
         Err(fault) => Err(fault),
     }
@@ -51,16 +62,24 @@ pub fn question_of<'a, 'w>(
 fn asked_by<'a, 'w>(
     alloc: Global,
     circuit: Circuit,
-    words: &ByPlace,
+    output: Option<usize>,
+    words: ByPlace,
     flips: Option<u64>,
 ) -> Result<Asked, QuestionFault<'a, 'w>>
     requires { length circuit.netlist.inputs < 2 ^ 32 }
-    ensures asked { IfOk result (λ asked. AreAdmitted circuit.netlist (words_by_place words.now) flips (setting asked.circuit) asked.admit) }
-    ensures fault { IfErr result (IsWordFault (length circuit.netlist.inputs) (placed_words (words_by_place words.now))) }
+    ensures asked { IfOk result (λ asked. AreAdmitted circuit.netlist (words_by_place words) flips (setting asked.circuit) asked.admit) }
+    ensures output { IfOk result (λ asked. asked.output ≡ output) }
+    ensures words { IfOk result (λ asked. (asked.circuit.netlist ≡ circuit.netlist) × (words_by_place asked.words ≡ words_by_place words)) }
+    ensures fault { IfErr result (IsWordFault (length circuit.netlist.inputs) (placed_words (words_by_place words))) }
 {
     let mut circuit = circuit;
-    match admit_in(alloc, &mut circuit, words, flips)? {
-        Ok(admit) => Ok(Asked { circuit, admit }),
+    match admit_in(alloc, &mut circuit, &words, flips)? {
+        Ok(admit) => Ok(Asked {
+            circuit,
+            admit,
+            output,
+            words,
+        }),
         Err(word) => Err(QuestionFault::BadVector(word)),
     }
 }

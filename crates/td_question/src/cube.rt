@@ -41,7 +41,7 @@ pub fn cube_of<'a, 'w>(
 {
     match placed_on(alloc, text, reading, inputs) {
         Ok(placed) => {
-            let Placed { circuit, words } = placed;
+            let Placed { circuit, words, .. } = placed;
             pinned_by(alloc, circuit, &words)
         }
         Err(fault) => Err(fault),

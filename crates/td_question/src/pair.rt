@@ -57,7 +57,7 @@ pub fn pair_of<'a, 'w>(
 {
     match placed_on(alloc, text, reading, inputs) {
         Ok(placed) => {
-            let Placed { circuit, words } = placed;
+            let Placed { circuit, words, .. } = placed;
             spelled_by(alloc, circuit, &words, Spelled { from, to })
         }
         Err(fault) => Err(fault),

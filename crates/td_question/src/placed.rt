@@ -2,7 +2,7 @@
 
 ghost use Rattle.std.specs.Prelude.{◌<◌, ◌^◌, length, IfOk, IfErr};
 ghost use Rattle.td_inputs.specs.Placings.{words_by_place};
-ghost use Rattle.td_source.specs.Reads.{HasCircuit};
+ghost use Rattle.td_source.specs.Reads.{HasCircuit, IsOutputOf};
 ghost use Rattle.td_question.specs.Asking.{SayTogether, IsFaultOfAny};
 
 use crate::fault::QuestionFault;
@@ -13,12 +13,14 @@ use td_circuit::Circuit;
 use td_inputs::{ByPlace, places};
 use td_reading::Reading;
 use td_request::Inputs;
-use td_source::circuit_of;
+use td_source::source_of;
 
-/// A circuit, and the words by place that say of its inputs what all words say together.
+/// A circuit, the number of the output that is asked about, where one is, and the words by place
+/// that say of its inputs what all words say together.
 #[derive(Drop)]
 pub(crate) struct Placed {
     pub(crate) circuit: Circuit,
+    pub(crate) output: Option<usize>,
     pub(crate) words: ByPlace,
 }
 
@@ -36,15 +38,20 @@ pub(crate) fn placed_on<'a, 'w>(
     inputs: &Inputs<'w>,
 ) -> Result<Placed, QuestionFault<'a, 'w>>
     ensures circuit { IfOk result (λ placed. HasCircuit text.now reading.now placed.circuit.netlist) }
+    ensures output { IfOk result (λ placed. IsOutputOf text.now reading.now placed.output) }
     ensures few { IfOk result (λ placed. length placed.circuit.netlist.inputs < 2 ^ 32) }
     ensures together { IfOk result (λ placed. SayTogether placed.circuit.netlist inputs.now (words_by_place placed.words)) }
     ensures fault { IfErr result (IsFaultOfAny text.now reading.now inputs.now) }
 {
-    let circuit = circuit_of(alloc, text, reading)?;
-    let labels = input_labels(alloc, &circuit)?;
+    let source = source_of(alloc, text, reading)?;
+    let labels = input_labels(alloc, &source.circuit)?;
     let options = places(alloc, &labels, inputs.named, inputs.given)?;
     match options {
-        Ok(Some(words)) => Ok(Placed { circuit, words }),
+        Ok(Some(words)) => Ok(Placed {
+            circuit: source.circuit,
+            output: source.output,
+            words,
+        }),
         Ok(None) => {
             let word = unread(alloc, inputs.given, labels.len())?;
             Err(QuestionFault::BadVector(word))

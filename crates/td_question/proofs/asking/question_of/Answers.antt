@@ -1,8 +1,10 @@
+use Rattle.std.proofs.Common.{sym, subst}
+use Rattle.td_source.specs.Reads.{IsOutputOf}
 use Rattle.std.proofs.lemmas.Result.{IfOk-weaker, IfErr-weaker}
 use Rattle.td_circuit.specs.Numbering.{setting}
 use Rattle.td_inputs.specs.Placings.{words_by_place}
 use Rattle.td_question.specs.Asking.{placed_words}
-use Rattle.td_question.proofs.Questions.{is_asked, word_fault, any_fault}
+use Rattle.td_question.proofs.Questions.{say_so, is_asked, word_fault, any_fault}
 use Rattle.td_question.proofs.asking.question_of.Goals as goal
 
 pub returns-in-Ok-clause-asked : goal.returns-in-Ok-clause-asked
@@ -19,3 +21,13 @@ returns-in-Ok-clause-fault c = IfErr-weaker c.asked_by.result _ _
 
 pub returns-in-Err-clause-fault : goal.returns-in-Err-clause-fault
 returns-in-Err-clause-fault c = any_fault c.args.text.now c.args.reading.now c.args.question.now.inputs placed_words c.in-Err.fault c.in-Err.ensures.fault
+
+pub returns-in-Ok-clause-output : goal.returns-in-Ok-clause-output
+returns-in-Ok-clause-output c = IfOk-weaker c.asked_by.result _ _
+    (λ asked is. subst (λ output. IsOutputOf c.args.text.now c.args.reading.now output) (sym is) c.in-Ok.ensures.output)
+    c.asked_by.ensures.output
+
+pub returns-in-Ok-clause-together : goal.returns-in-Ok-clause-together
+returns-in-Ok-clause-together c = IfOk-weaker c.asked_by.result _ _
+    (λ asked is. say_so c.args.question.now.inputs _ _ _ _ is.0 is.1 c.in-Ok.ensures.together)
+    c.asked_by.ensures.words

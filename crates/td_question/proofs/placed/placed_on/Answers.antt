@@ -13,8 +13,8 @@ returns-in-Ok-Some-clause-together c =
 
 pub returns-in-Ok-None-clause-fault : goal.returns-in-Ok-None-clause-fault
 returns-in-Ok-None-clause-fault c = record {
-  netlist = c.in_ok-circuit.circuit.netlist;
-  circuit = c.in_ok-circuit.ensures.circuit;
+  netlist = c.in_ok-source.source.circuit.netlist;
+  circuit = c.in_ok-source.ensures.circuit;
   unread = subst (λ (ls : List Label). IsUnread ls (taken_of c.args.inputs.now) (given_in c.args.inputs.now.given))
       (ap (map label_in) c.deref.ensures.value ∙ c.in_ok-labels.ensures)
       (rw (c.in-Ok-None.is, c.in-Ok-None.field-0-is) at c.in_ok-options.ensures.unread);
@@ -22,8 +22,8 @@ returns-in-Ok-None-clause-fault c = record {
 
 pub returns-clause-fault : goal.returns-clause-fault
 returns-clause-fault c = record {
-  netlist = c.in_ok-circuit.circuit.netlist;
-  circuit = c.in_ok-circuit.ensures.circuit;
+  netlist = c.in_ok-source.source.circuit.netlist;
+  circuit = c.in_ok-source.ensures.circuit;
   called = c.in_ok-labels.ensures;
   wrong = subst (λ (ls : List Label). IsWrong ls (taken_of c.args.inputs.now) (given_in c.args.inputs.now.given) (fault_in c.in-Err.fault))
       (ap (map label_in) c.deref.ensures.value ∙ c.in_ok-labels.ensures)

@@ -1,0 +1,73 @@
+-- From the verdict on a certificate to what a check says.
+use Rattle.std.proofs.Common.{◌≡◌, ◌∙◌, ◌≤◌, ℕ, List, Bool, true, false, refl, sym, subst, arith, inl, inr}
+use Rattle.std.specs.Prelude.{◌==◌, if◌then◌else◌}
+use Rattle.std.proofs.lemmas.Bool.{eqb-true, eq-eqb, cases_eq}
+use Rattle.td_reading.specs.declared.reading.Reading.{Reading}
+use Rattle.td_circuit.specs.Settings.{Setting}
+use Rattle.td_certificate.specs.declared.certificate.Certificate.{Certificate}
+use Rattle.td_certificate.specs.Questions.{asking_of}
+use Rattle.td_certificate.specs.Accepts.{setting_of, IsClaim}
+use Rattle.td_certificate.specs.Spelling.{Spells}
+use Rattle.td_checker.specs.declared.verdict.Verdict.{Verdict}
+use Rattle.td_checker.specs.declared.verdict.Verdict.TheVariants as verdict
+use Rattle.td_checker.specs.Checks.{HaveVerdict, TellsTruth}
+use Rattle.td_lines.specs.declared.line.Line.{Line}
+use Rattle.td_lines.specs.declared.line.Line.TheVariants as line
+use Rattle.td_answer.specs.declared.status.Status.{Status}
+use Rattle.td_answer.specs.Claims.{accepted_line}
+use Rattle.td_answer.specs.Verdicts.{AreVerdictLines, AreRefusedLines, ending_by, IsTrueClaim, IsRejected, IsTrueVerdict}
+
+-- the first line of a claim that is true is true
+claim_true : (setting : Setting) (c : Certificate) → IsClaim setting c → IsTrueClaim setting (asking_of c.question) (accepted_line c.time c.high)
+claim_true setting c is = go (c.time == c.high) refl
+  where
+    ordered : c.time ≤ c.high
+    ordered = is.bounded c.pair c.time is.admitted is.reached
+
+    go : (same : Bool) → (c.time == c.high) ≡ same
+        → IsTrueClaim setting (asking_of c.question) (if same then line.Accepted c.time else line.AcceptedBetween c.time c.high)
+    go true equal = (
+      (c.pair, is.admitted, is.reached),
+      λ pair delay admitted delays. omega (arith, is.bounded pair delay admitted delays, eqb-true c.time c.high equal),
+    )
+    go false differ = (
+      (c.pair, is.admitted, is.reached),
+      elim (cases_eq c.time c.high) [
+        | inl same ↦ (let no : true ≡ false = sym (eq-eqb c.time c.high same) ∙ differ in absurd cc)
+        | inr other ↦ omega (arith, ordered, other)
+      ],
+      is.bounded,
+    )
+
+module _ (text : List ℕ) (reading : Reading) (spelled : List ℕ) (certificate : Certificate) (report : List Line) where
+  rejected : (found : Verdict) → HaveVerdict text reading spelled found → AreRefusedLines found report → IsRejected text reading spelled report
+  rejected found has lines = record { found = found; has = has; is = lines }
+
+  by_verdict : (found : Verdict) → HaveVerdict text reading spelled found → Spells certificate spelled
+      → (found ≡ verdict.Accepted → TellsTruth text reading spelled) → AreVerdictLines certificate found report
+      → IsTrueVerdict text reading spelled report (ending_by found)
+  by_verdict verdict.Accepted have spells truth says = record {
+    netlist = have.netlist;
+    circuit = have.circuit;
+    certificate = certificate;
+    spells = spells;
+    claim = accepted_line certificate.time certificate.high;
+    is_true = claim_true (setting_of have.netlist certificate) certificate (truth refl have.netlist certificate have.circuit.reads spells);
+    is = says;
+  }
+  by_verdict verdict.PairTime have spells truth says = rejected verdict.PairTime have says
+  by_verdict (verdict.LeafBound line) have spells truth says = rejected (verdict.LeafBound line) have says
+  by_verdict (verdict.LeafAboveTime line) have spells truth says = rejected (verdict.LeafAboveTime line) have says
+  by_verdict (verdict.BadPosition line) have spells truth says = rejected (verdict.BadPosition line) have says
+  by_verdict (verdict.NotAPoint line) have spells truth says = rejected (verdict.NotAPoint line) have says
+  by_verdict verdict.OtherCircuit have spells truth says = rejected verdict.OtherCircuit have says
+  by_verdict verdict.PairNotAdmitted have spells truth says = rejected verdict.PairNotAdmitted have says
+  by_verdict (verdict.LeafNotEmpty line) have spells truth says = rejected (verdict.LeafNotEmpty line) have says
+  by_verdict (verdict.BadStep line flaw) have spells truth says = rejected (verdict.BadStep line flaw) have says
+  by_verdict (verdict.OtherQuestion line) have spells truth says = rejected (verdict.OtherQuestion line) have says
+
+  pub true_check : (found : Verdict) (ending : Status) → HaveVerdict text reading spelled found → Spells certificate spelled
+      → (found ≡ verdict.Accepted → TellsTruth text reading spelled) → AreVerdictLines certificate found report → ending ≡ ending_by found
+      → IsTrueVerdict text reading spelled report ending
+  true_check found ending have spells truth says ends =
+      subst (λ (e : Status). IsTrueVerdict text reading spelled report e) (sym ends) (by_verdict found have spells truth says)

@@ -1,0 +1,14 @@
+pub mod OutputNets
+pub mod Adding
+pub mod Ways
+pub mod LatestBound
+pub mod Judged
+pub mod Searched
+pub mod Listing
+pub mod Zips
+pub mod Whole
+pub mod Cuts
+pub mod Keeping
+pub mod Writable
+pub mod Gathered
+pub mod Reporting

@@ -1,0 +1,106 @@
+-- Parts that texts tell, and what they are joined into.
+use Rattle.std.proofs.Common.{◌≡◌, ◌∙◌, ◌≤◌, ℕ, Bool, true, List, [], length, take, refl, sym, subst, inl, inr, arith, append-nil}
+use Rattle.std.specs.Prelude.{Option, All}
+use Rattle.std.specs.Borrow.{Bor}
+use Rattle.std.proofs.lemmas.List.Elements.{All-from_recursion}
+use Rattle.td_reading.specs.declared.reading.Reading.{Reading}
+use Rattle.td_nets.specs.Netlist.{Netlist}
+use Rattle.td_nets.specs.WellFormed.{IsWellFormed}
+use Rattle.td_source.specs.Reads.{HasCircuit}
+use Rattle.td_source.proofs.Naming.{reads_one}
+use Rattle.td_circuit.specs.Settings.{AreMoments}
+use Rattle.td_domain.specs.declared.cubes.Trit.{Trit}
+use Rattle.td_certificate.specs.declared.certificate.Certificate.{Certificate}
+use Rattle.td_certificate.specs.declared.fault.CertFault.{CertFault}
+use Rattle.td_certificate.specs.Questions.{asking_of}
+use Rattle.td_certificate.specs.Accepts.{Accepts, setting_of}
+use Rattle.td_certificate.specs.Faults.{IsFault}
+use Rattle.td_certificate.specs.Spelling.{HasSpelling, latest}
+use Rattle.td_certificate.proofs.Acceptance.{accepted_is_true}
+use Rattle.td_certificate.proofs.Texts.{spells_once}
+use Rattle.td_checker.specs.declared.verdict.CheckFault.{CheckFault}
+use Rattle.td_checker.specs.declared.verdict.CheckFault.TheVariants as check
+use Rattle.td_checker.specs.Checks.{IsCheckFault}
+use Rattle.td_join.specs.Joining.{IsJoined}
+use Rattle.td_join.specs.Faults.{IsJoinFault}
+use Rattle.td_join.specs.declared.fault.JoinFault.{JoinFault}
+use Rattle.td_answer.specs.declared.refusal.Refusal.{Refusal}
+use Rattle.td_request.specs.declared.request.Join.{Join}
+use Rattle.td_question.specs.Asking.{IsPinned}
+use Rattle.td_answer.specs.Joins.{TellsPart, TellsNoPart, AreParts, IsToJoin, IsUnjoinedFor, whole_pins}
+use Rattle.td_answer.specs.Unjoined.{IsOfPart, IsOfUnjoined, unjudged}
+use Rattle.td_answer.specs.Verdicts.{IsWorstAsked}
+use Rattle.td_answer.proofs.Zips.{zip_second}
+
+-- ---- a part
+
+-- a fault of a part's text
+pub bad_part : (text : List ℕ) (reading : Reading) (netlist : Netlist) (check : Bool) (name : Bor (List ℕ)) (spelled : List ℕ) (fault : CertFault) (reason : Refusal)
+    → IsFault fault.kind fault.line spelled → IsOfPart name fault reason → TellsNoPart text reading netlist check name.now spelled reason
+bad_part text reading netlist check name spelled fault reason is (inl memory) =
+    subst (λ (r : Refusal). TellsNoPart text reading netlist check name.now spelled r) (sym memory) tt
+bad_part text reading netlist check name spelled fault reason is (inr reported) =
+    subst (λ (r : Refusal). TellsNoPart text reading netlist check name.now spelled r) (sym reported.1) (reported.0, refl, is)
+
+-- why a certificate wasn't judged
+pub not_judged : (text : List ℕ) (reading : Reading) (netlist : Netlist) (name : Bor (List ℕ)) (spelled : List ℕ) (fault : CheckFault)
+    → IsCheckFault text reading spelled fault → TellsNoPart text reading netlist true name.now spelled (unjudged name fault)
+not_judged text reading netlist name spelled check.OutOfMemory is = tt
+not_judged text reading netlist name spelled (check.Netlist reported) is = (refl, is)
+not_judged text reading netlist name spelled check.NoOutput is = (refl, is)
+not_judged text reading netlist name spelled (check.Loop net) is = (refl, is)
+not_judged text reading netlist name spelled (check.Certificate reported) is = (is.2, refl, is.3)
+
+module _ (text : List ℕ) (reading : Reading) (netlist : Netlist) (circuit : HasCircuit text reading netlist) where
+  -- parts have texts
+  pub parts_spelled : (checked : Bool) (names texts : List (List ℕ)) (parts : List Certificate) → AreParts text reading netlist checked names texts parts
+      → All HasSpelling parts
+  parts_spelled checked names texts parts are =
+      zip_second (TellsPart text reading netlist checked) HasSpelling (λ spelled part tells. tells.spells.has) (take (length names) texts) parts are.each
+
+  -- the netlist accepts a part whose verdict is so
+  part_accepted : (spelled : List ℕ) (part : Certificate) → TellsPart text reading netlist true spelled part → Accepts netlist part
+  part_accepted spelled part tells =
+      let have = tells.accepted refl in
+      let same_netlist : have.netlist ≡ netlist = reads_one text reading have.netlist netlist have.circuit.reads circuit.reads in
+      let same_part : have.certificate ≡ part = (spells_once have.certificate part spelled spelled [] have.spells tells.spells (sym (append-nil spelled))).0 in
+      subst (λ (c : Certificate). Accepts netlist c) same_part (subst (λ (n : Netlist). Accepts n have.certificate) same_netlist have.is.1)
+
+  parts_accepted : (names texts : List (List ℕ)) (parts : List Certificate) → AreParts text reading netlist true names texts parts
+      → All (Accepts netlist) parts
+  parts_accepted names texts parts are =
+      zip_second (TellsPart text reading netlist true) (Accepts netlist) part_accepted (take (length names) texts) parts are.each
+
+  -- ---- the whole
+
+  fits : (whole : Certificate) → HasSpelling whole → Accepts netlist whole → AreMoments netlist whole.question.moments
+  fits whole spelled accepted = record {
+    count = spelled.count ∙ sym accepted.size.inputs;
+    within = All-from_recursion (λ moment. moment ≤ latest) whole.question.moments spelled.moments;
+  }
+
+  -- where the parts are checked, its time is the worst delay
+  pub whole_worst : (checked : Bool) (names texts : List (List ℕ)) (parts : List Certificate) (pins : List Trit) (whole : Certificate) → IsWellFormed netlist
+      → AreParts text reading netlist checked names texts parts → IsJoined parts pins whole → HasSpelling whole
+      → ((any : Netlist) → All (Accepts any) parts → Accepts any whole) → checked ≡ true
+      → IsWorstAsked (setting_of netlist whole) (asking_of whole.question) whole.time
+  whole_worst checked names texts parts pins whole formed are joined spelled accepted check =
+      let each = parts_accepted names texts parts (subst (λ (b : Bool). AreParts text reading netlist b names texts parts) check are) in
+      let is = accepted netlist each in
+      let claim = accepted_is_true netlist whole formed circuit.acyclic (fits whole spelled is) is in (
+        (whole.pair, claim.admitted, claim.reached),
+        λ pair delay about delays. omega (arith, claim.bounded pair delay about delays, joined.whole_closed),
+      )
+
+-- what is to be joined
+pub to_join : (text : List ℕ) (reading : Reading) (asked : Join) (texts : List (List ℕ)) (netlist : Netlist) (parts : List Certificate) (given : Option (List Trit))
+    → IsPinned text reading asked.inputs netlist given → AreParts text reading netlist asked.check asked.parts texts parts
+    → IsToJoin text reading asked texts netlist parts (whole_pins given parts)
+to_join text reading asked texts netlist parts given pinned are = record { given = given; pinned = pinned; are_parts = are; pins_are = refl }
+
+-- why the parts aren't joined
+pub unjoined_for : (names : List (List ℕ)) (parts : List Certificate) (pins : List Trit) (fault : JoinFault ℕ) (reason : Refusal)
+    → IsJoinFault parts pins fault → IsOfUnjoined names fault reason → IsUnjoinedFor names parts pins reason
+unjoined_for names parts pins fault reason is (inl memory) = subst (λ (r : Refusal). IsUnjoinedFor names parts pins r) (sym memory) tt
+unjoined_for names parts pins fault reason is (inr told) =
+    subst (λ (r : Refusal). IsUnjoinedFor names parts pins r) (sym told.is) (fault, told.reported, is, told.named)

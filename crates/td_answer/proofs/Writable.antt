@@ -1,0 +1,56 @@
+-- What can be written of outcomes.
+use Rattle.std.proofs.Common.{◌≡◌, ℕ, List, Bool, true, false, subst, sym}
+use Rattle.std.specs.Prelude.{Option, Some, None, IfSome}
+use Rattle.td_gates.specs.Wave.{Wave}
+use Rattle.td_nets.specs.Netlist.{Net}
+use Rattle.td_reading.specs.declared.reading.Reading.{Reading}
+use Rattle.td_circuit.specs.Settings.{Setting}
+use Rattle.td_certificate.specs.declared.certificate.Certificate.{Certificate}
+use Rattle.td_certificate.specs.Spelling.{HasSpelling}
+use Rattle.td_lines.specs.declared.line.Line.{Line}
+use Rattle.td_request.specs.declared.question.Question.{Question}
+use Rattle.td_answer.specs.declared.outcome.Outcome.{Outcome}
+use Rattle.td_answer.specs.declared.outcome.Waves.{Waves}
+use Rattle.td_answer.specs.declared.status.Status.{Status}
+use Rattle.td_answer.specs.declared.status.Status.TheVariants as status
+use Rattle.td_answer.specs.Dumps.{IsDumpWhere}
+use Rattle.td_answer.specs.Certified.{IsCertified}
+use Rattle.td_answer.specs.Writing.{HasRun, CanBeWritten}
+
+-- no certificate
+none_spelled : (certificate : Option Certificate) → certificate ≡ None → IfSome certificate HasSpelling
+none_spelled certificate none = subst (λ (c : Option Certificate). IfSome c HasSpelling) (sym none) tt
+
+-- the certificate of a search
+certificate_spelled : (text : List ℕ) (reading : Reading) (question : Question) (report : List Line) (certificate : Option Certificate) (ending : Status)
+    → IsCertified text reading question report certificate ending → IfSome certificate HasSpelling
+certificate_spelled text reading question report None ending is = tt
+certificate_spelled text reading question report (Some certificate) status.Done is = is.written
+certificate_spelled text reading question report (Some certificate) status.Refused is = none_spelled (Some certificate) is
+certificate_spelled text reading question report (Some certificate) status.BadCommand is = none_spelled (Some certificate) is
+certificate_spelled text reading question report (Some certificate) status.Between is = none_spelled (Some certificate) is
+certificate_spelled text reading question report (Some certificate) status.Rejected is = none_spelled (Some certificate) is
+certificate_spelled text reading question report (Some certificate) status.Device is = none_spelled (Some certificate) is
+
+-- the dump that is asked for
+dump_written : (is_asked : Bool) (setting : Setting) (IsRun : (Net → Wave) → Type 0) (dump : Option Waves) → IsDumpWhere is_asked setting IsRun dump
+    → IfSome dump HasRun
+dump_written false setting IsRun dump none = subst (λ (d : Option Waves). IfSome d HasRun) (sym none) tt
+dump_written true setting IsRun None is = tt
+dump_written true setting IsRun (Some dump) is = is.has
+
+pub searched_written : (text : List ℕ) (reading : Reading) (question : Question) (is_asked : Bool) (setting : Setting) (IsRun : (Net → Wave) → Type 0) (outcome : Outcome)
+    → IsCertified text reading question outcome.report outcome.certificate outcome.status → IsDumpWhere is_asked setting IsRun outcome.dump
+    → CanBeWritten outcome
+searched_written text reading question is_asked setting IsRun outcome certified dumped = record {
+  certificate = certificate_spelled text reading question outcome.report outcome.certificate outcome.status certified;
+  dump = dump_written is_asked setting IsRun outcome.dump dumped;
+}
+
+-- a dump alone
+pub dumped_written : (is_asked : Bool) (setting : Setting) (IsRun : (Net → Wave) → Type 0) (outcome : Outcome)
+    → outcome.certificate ≡ None → IsDumpWhere is_asked setting IsRun outcome.dump → CanBeWritten outcome
+dumped_written is_asked setting IsRun outcome none dumped = record {
+  certificate = none_spelled outcome.certificate none;
+  dump = dump_written is_asked setting IsRun outcome.dump dumped;
+}

@@ -1,0 +1,36 @@
+-- Two lists of one length, element by element.
+use Rattle.std.proofs.Common.{◌<◌, ◌≤◌, ◌+◌, ℕ, List, [], ◌∷◌, ◌++◌, length, take, get_or, sym, subst, arith}
+use Rattle.std.specs.Prelude.{map, All}
+use Rattle.std.specs.List.{AllZip}
+use Rattle.std.proofs.lemmas.List.{take_more, take_all}
+use Rattle.std.proofs.lemmas.List.Elements.{All-cons}
+
+module _ {A B : Type 0} (R : A → B → Type 0) where
+  zip_push : (xs : List A) (ys : List B) (x : A) (y : B) → AllZip R xs ys → R x y → AllZip R (xs ++ x ∷ []) (ys ++ y ∷ [])
+  zip_push [] [] x y all r = (r, tt)
+  zip_push [] (b ∷ ys) x y all r = absurd all
+  zip_push (a ∷ xs) [] x y all r = absurd all
+  zip_push (a ∷ xs) (b ∷ ys) x y all r = (all.0, zip_push xs ys x y all.1 r)
+
+  -- one more of each
+  pub zip_more : (xs : List A) (ys : List B) (i : ℕ) (d : A) (y : B) → i < length xs → AllZip R (take i xs) ys → R (get_or xs i d) y
+      → AllZip R (take (i + 1) xs) (ys ++ y ∷ [])
+  zip_more xs ys i d y less all r =
+      subst (λ (front : List A). AllZip R front (ys ++ y ∷ [])) (sym (take_more xs i d less)) (zip_push (take i xs) ys (get_or xs i d) y all r)
+
+  -- all of them
+  pub zip_all : (xs : List A) (ys : List B) (i : ℕ) → length xs ≤ i → AllZip R (take i xs) ys → AllZip R xs ys
+  zip_all xs ys i past all = subst (λ (front : List A). AllZip R front ys) (take_all i xs past) all
+
+  -- what holds of one side's elements
+  pub zip_second : (P : B → Type 0) → ((x : A) (y : B) → R x y → P y) → (xs : List A) (ys : List B) → AllZip R xs ys → All P ys
+  zip_second P each [] [] all = λ k d less. absurd (omega (arith, less))
+  zip_second P each [] (y ∷ ys) all = absurd all
+  zip_second P each (x ∷ xs) [] all = absurd all
+  zip_second P each (x ∷ xs) (y ∷ ys) all = All-cons P y ys (each x y all.0) (zip_second P each xs ys all.1)
+
+pub zip_mapped : {A B C : Type 0} (f : A → C) (R : C → B → Type 0) (xs : List A) (ys : List B) → AllZip (λ x y. R (f x) y) xs ys → AllZip R (map f xs) ys
+zip_mapped f R [] [] all = tt
+zip_mapped f R [] (b ∷ ys) all = absurd all
+zip_mapped f R (a ∷ xs) [] all = absurd all
+zip_mapped f R (a ∷ xs) (b ∷ ys) all = (all.0, zip_mapped f R xs ys all.1)

@@ -1,0 +1,9 @@
+use Rattle.std.proofs.lemmas.Result.{on_ok_weaker}
+use Rattle.td_answer.specs.Refusals.{certificate_text}
+use Rattle.td_answer.proofs.Adding.{two_appended}
+use Rattle.td_answer.proofs.sentence.certificate.Goals as goal
+
+pub returns : goal.returns
+unfolding certificate_text
+returns c =
+    on_ok_weaker c.certificate_fault.result (two_appended c.args.out.now _ _ _ _ c.in_ok-push.ensures.appended) c.certificate_fault.ensures

@@ -1,0 +1,72 @@
+use Rattle.std.proofs.Common.{inr, subst, refl}
+use Rattle.std.proofs.lemmas.Result.{err_from_is_err_and}
+use Rattle.td_circuit.specs.Numbering.{setting}
+use Rattle.td_search.specs.Problems.{problem_by}
+use Rattle.td_search.specs.declared.strategy.Strategy.{Strategy}
+use Rattle.td_worst.specs.Methods.{tree_of}
+use Rattle.td_worst.proofs.Outcomes.{outcome_by}
+use Rattle.td_question.proofs.Questions.{asked_held, asked_flips}
+use Rattle.td_answer.specs.Certificates.{CanBeTold}
+use Rattle.std.specs.Prelude.{is_some}
+use Rattle.td_answer.specs.Lines.{pair_in}
+use Rattle.td_answer.specs.Runs.{RunsPair}
+use Rattle.td_answer.proofs.Writable.{searched_written}
+use Rattle.td_answer.proofs.Searched.{pair_fits, says, certified, refused}
+use Rattle.td_answer.proofs.worst.worst.Goals as goal
+
+pub worst-requires-clause-held : goal.worst-requires-clause-held
+worst-requires-clause-held g c κs within =
+    asked_held c.args.text.now c.args.reading.now c.args.search.now.question (setting c.in_ok-asked.asked.circuit) c.in_ok-asked.asked.admit c.in_ok-asked.ensures.asked
+
+pub outcome_of-requires-clause-flips : goal.outcome_of-requires-clause-flips
+outcome_of-requires-clause-flips g c =
+    asked_flips c.args.text.now c.args.reading.now c.args.search.now.question (setting c.in_ok-asked.asked.circuit) c.in_ok-asked.asked.admit c.in_ok-asked.ensures.asked
+
+pub outcome_of-requires-clause-first_fits : goal.outcome_of-requires-clause-first_fits
+outcome_of-requires-clause-first_fits g c =
+    (pair_fits c.method_of-method.result _ c.effort_of-effort.result.effort.budget c.in_ok-answer.answer c.in_ok-answer.ensures.answer).0
+
+pub outcome_of-requires-clause-second_fits : goal.outcome_of-requires-clause-second_fits
+outcome_of-requires-clause-second_fits g c =
+    (pair_fits c.method_of-method.result _ c.effort_of-effort.result.effort.budget c.in_ok-answer.answer c.in_ok-answer.ensures.answer).1
+
+pub returns-in_err-answer-clause-refusal : goal.returns-in_err-answer-clause-refusal
+returns-in_err-answer-clause-refusal g c =
+    let reported = err_from_is_err_and c.from_residual-in_err-answer.result c.from_residual-in_err-answer.ensures.1 in
+    rw (reported.1, reported.2) (refused c.args.text.now c.args.reading.now c.args.search.now c.in_ok-asked.asked.circuit c.in_ok-asked.asked.admit
+    (tree_of c.method_of-method.result) c.in_ok-asked.ensures.asked _ c.in_err-answer.field-0.0 c.effort_of-effort.ensures.timed c.in_err-answer.ensures.fault)
+
+pub returns-clause-says : goal.returns-clause-says
+returns-clause-says g c =
+    says c.args.text.now c.args.reading.now c.args.search.now c.in_ok-asked.asked.circuit c.in_ok-asked.asked.admit (tree_of c.method_of-method.result)
+    c.in_ok-asked.ensures.asked c.effort_of-effort.result.effort.budget c.in_ok-answer.answer c.in_ok-outcome.outcome
+    (outcome_by c.method_of-method.result _ c.effort_of-effort.result.effort.budget c.in_ok-answer.answer c.in_ok-answer.ensures.answer)
+    c.in_ok-outcome.ensures.report c.in_ok-outcome.ensures.status c.in_ok-outcome.ensures.dumped
+
+pub returns-clause-certified : goal.returns-clause-certified
+returns-clause-certified g c =
+    certified c.args.text.now c.args.reading.now c.args.search.now c.in_ok-asked.asked.circuit c.in_ok-asked.asked.admit (tree_of c.method_of-method.result)
+    c.in_ok-asked.ensures.asked c.effort_of-effort.result.effort.budget _ c.in_ok-answer.answer c.in_ok-outcome.outcome refl c.in_ok-asked.ensures.output
+    (outcome_by c.method_of-method.result _ c.effort_of-effort.result.effort.budget c.in_ok-answer.answer c.in_ok-answer.ensures.answer)
+    c.in_ok-answer.ensures.text
+    (subst (λ (s : Strategy). CanBeTold (record { default = c.args.reading.now.default; output = c.in_ok-asked.asked.output }) s c.in_ok-answer.answer) c.strategy.ensures c.in_ok-outcome.ensures.told)
+    c.in_ok-outcome.ensures.report c.in_ok-outcome.ensures.status
+    (rw c.strategy.ensures at c.in_ok-outcome.ensures.certified)
+
+pub returns-clause-written : goal.returns-clause-written
+returns-clause-written g c =
+    searched_written c.args.text.now c.args.reading.now c.args.search.now.question (is_some c.args.search.now.dump) (setting c.in_ok-asked.asked.circuit)
+    (RunsPair (setting c.in_ok-asked.asked.circuit) (pair_in c.in_ok-answer.answer)) c.in_ok-outcome.outcome
+    (returns-clause-certified g c) c.in_ok-outcome.ensures.dumped
+
+pub returns-clause-reported : goal.returns-clause-reported
+returns-clause-reported g c =
+    inr (problem_by (tree_of c.method_of-method.result) c.in_ok-asked.asked.circuit c.in_ok-asked.asked.admit, c.in_ok-asked.ensures.asked, c.in_ok-answer.ensures.reported)
+
+pub returns-in_err-answer-clause-reported : goal.returns-in_err-answer-clause-reported
+returns-in_err-answer-clause-reported g c =
+    inr (problem_by (tree_of c.method_of-method.result) c.in_ok-asked.asked.circuit c.in_ok-asked.asked.admit, c.in_ok-asked.ensures.asked, c.in_err-answer.ensures.reported)
+
+pub returns-in_err-outcome-clause-reported : goal.returns-in_err-outcome-clause-reported
+returns-in_err-outcome-clause-reported g c =
+    inr (problem_by (tree_of c.method_of-method.result) c.in_ok-asked.asked.circuit c.in_ok-asked.asked.admit, c.in_ok-asked.ensures.asked, c.in_ok-answer.ensures.reported)

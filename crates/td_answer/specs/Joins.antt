@@ -1,0 +1,150 @@
+-- What is true of the outcome of `join`.
+use Rattle.std.specs.Prelude.{◌≡◌, ◌≢◌, ◌<◌, ◌≤◌, ◌⊎◌, ℕ, Bool, true, List, [], ◌++◌, All, take, map, length, get_or, slice_get, Option, Some, None}
+use Rattle.std.specs.Global.{Vec}
+use Rattle.std.specs.List.{AllZip}
+use Rattle.td_nets.specs.Netlist.{Netlist}
+use Rattle.td_reading.specs.declared.reading.Reading.{Reading}
+use Rattle.td_source.specs.Reads.{HasCircuit}
+use Rattle.td_domain.specs.declared.cubes.Trit.{Trit}
+use Rattle.td_certificate.specs.declared.certificate.Certificate.{Certificate}
+use Rattle.td_certificate.specs.declared.fault.CertFaultKind.TheVariants as certificate_kind
+use Rattle.td_certificate.specs.Questions.{asking_of}
+use Rattle.td_certificate.specs.Accepts.{Accepts, IsOfSize, setting_of}
+use Rattle.td_certificate.specs.Faults.{IsFault}
+use Rattle.td_certificate.specs.Spelling.{Spells, HasSpelling}
+use Rattle.td_checker.specs.declared.verdict.Verdict.TheVariants.{Accepted}
+use Rattle.td_checker.specs.Checks.{HaveVerdict, IsCheckFault}
+use Rattle.td_join.specs.declared.fault.JoinFault.{JoinFault}
+use Rattle.td_join.specs.declared.fault.JoinFault.TheVariants as fault
+use Rattle.td_join.specs.Joining.{IsJoined, hull}
+use Rattle.td_join.specs.Faults.{IsJoinFault, renamed}
+use Rattle.td_request.specs.declared.request.Join.{Join}
+use Rattle.td_question.specs.Asking.{IsPinned, IsFaultOf, pin_words}
+use Rattle.td_answer.specs.Heads.{head_lines}
+use Rattle.td_answer.specs.Lines.{exact_lines}
+use Rattle.td_answer.specs.Verdicts.{IsWorstAsked}
+use Rattle.td_answer.specs.declared.outcome.Outcome.{Outcome}
+use Rattle.td_answer.specs.declared.refusal.Refusal.{Refusal}
+use Rattle.td_answer.specs.declared.refusal.Refusal.TheVariants as refusal
+use Rattle.td_answer.specs.declared.status.Status.TheVariants.{Done}
+
+-- the bytes of texts
+abbrev pub texts_of : List (Vec ℕ) → List (List ℕ)
+texts_of certificates = map (λ text. text.items) certificates
+
+-- the pins of the whole: those that are given, or else the least cube that has the pins of all
+-- parts
+abbrev pub whole_pins : Option (List Trit) → List Certificate → List Trit
+whole_pins None parts = hull parts
+whole_pins (Some pins) parts = pins
+
+-- ---- the parts
+
+-- for a netlist, the text spells this certificate, which is of a circuit of its size, and accepted
+-- where that is asked for
+pub record TellsPart (text : List ℕ) (reading : Reading) (netlist : Netlist) (check : Bool) (spelled : List ℕ) (part : Certificate) : Type 0 where
+  pub spells : Spells part spelled
+  pub sized : IsOfSize netlist part
+  pub accepted : check ≡ true → HaveVerdict text reading spelled Accepted
+
+-- why a text gives no part, another verdict only where parts are checked; the refusal names its
+-- file
+abbrev pub TellsNoPart : List ℕ → Reading → Netlist → Bool → List ℕ → List ℕ → Refusal → Type 0
+TellsNoPart text reading netlist check name spelled refusal.OutOfMemory = Unit {0}
+TellsNoPart text reading netlist check name spelled (refusal.BadPart reported found) =
+    (found.kind ≢ certificate_kind.OutOfMemory) × (reported.now ≡ name) × IsFault found.kind found.line spelled
+TellsNoPart text reading netlist check name spelled (refusal.Unaccepted reported verdict) =
+    (check ≡ true) × (reported.now ≡ name) × (verdict ≢ Accepted) × HaveVerdict text reading spelled verdict
+TellsNoPart text reading netlist check name spelled (refusal.OtherCircuit reported) =
+    (reported.now ≡ name) × (part : Certificate) × Spells part spelled × ¬ IsOfSize netlist part
+TellsNoPart text reading netlist check name spelled (refusal.Check found) = (check ≡ true) × IsCheckFault text reading spelled found
+TellsNoPart text reading netlist check name spelled other = ⊥
+
+-- a text for each name, and a part that it tells, in order
+pub record AreParts (text : List ℕ) (reading : Reading) (netlist : Netlist) (check : Bool) (names texts : List (List ℕ)) (parts : List Certificate) : Type 0 where
+  pub there : length names ≤ length texts
+  pub each : AllZip (TellsPart text reading netlist check) (take (length names) texts) parts
+
+-- the text of the file of this name isn't there, or tells no part
+abbrev pub LacksPart : List ℕ → Reading → Netlist → Bool → List ℕ → Option (List ℕ) → Refusal → Type 0
+LacksPart text reading netlist check name None (refusal.Unread reported) = reported.now ≡ name
+LacksPart text reading netlist check name None other = ⊥
+LacksPart text reading netlist check name (Some spelled) reason = TellsNoPart text reading netlist check name spelled reason
+
+-- it is so of one of the files
+pub record HasNoPart (text : List ℕ) (reading : Reading) (netlist : Netlist) (check : Bool) (names texts : List (List ℕ)) (reason : Refusal) : Type 0 where
+  pub place : ℕ
+  pub name : List ℕ
+  pub is_name : slice_get names place ≡ Some name
+  pub lacks : LacksPart text reading netlist check name (slice_get texts place) reason
+
+-- ---- what is joined
+
+-- the text means a netlist without a loop, the texts tell parts of a question about it, and these
+-- are the pins of the whole
+pub record IsToJoin (text : List ℕ) (reading : Reading) (asked : Join) (texts : List (List ℕ)) (netlist : Netlist) (parts : List Certificate) (pins : List Trit) : Type 0 where
+  pub given : Option (List Trit)
+  pub pinned : IsPinned text reading asked.inputs netlist given
+  pub are_parts : AreParts text reading netlist asked.check asked.parts texts parts
+  pub pins_are : pins ≡ whole_pins given parts
+
+-- the most nodes of a whole
+abbrev pub most_nodes : ℕ
+most_nodes = 10000000
+
+-- The parts are joined into one certificate, which has a text and not too many nodes, and the
+-- report tells its time, its pair and the number of its nodes, as that of a search does. Where each
+-- part is accepted of a netlist, so is the whole. Where the parts are checked, its time is the
+-- worst delay of the pairs that it asks about.
+pub record IsJoinedTo (text : List ℕ) (reading : Reading) (asked : Join) (texts : List (List ℕ)) (outcome : Outcome) (whole : Certificate) : Type 0 where
+  pub netlist : Netlist
+  pub parts : List Certificate
+  pub pins : List Trit
+  pub to_join : IsToJoin text reading asked texts netlist parts pins
+  pub joined : IsJoined parts pins whole
+  pub has_text : HasSpelling whole
+  pub few : length whole.tree ≤ most_nodes
+  pub accepted : (any : Netlist) → All (Accepts any) parts → Accepts any whole
+  pub worst : asked.check ≡ true → IsWorstAsked (setting_of netlist whole) (asking_of whole.question) whole.time
+  pub is : outcome.report ≡ head_lines netlist ++ exact_lines whole.time whole.pair (length whole.tree)
+  pub ends : outcome.status ≡ Done
+
+-- the outcome's certificate is what they are joined to
+abbrev pub IsJoinedInto : List ℕ → Reading → Join → List (List ℕ) → Outcome → Option Certificate → Type 0
+IsJoinedInto text reading asked texts outcome None = ⊥
+IsJoinedInto text reading asked texts outcome (Some whole) = IsJoinedTo text reading asked texts outcome whole
+
+abbrev pub IsTrueJoin : List ℕ → Reading → Join → List (List ℕ) → Outcome → Type 0
+IsTrueJoin text reading asked texts outcome = IsJoinedInto text reading asked texts outcome outcome.certificate
+
+-- ---- why nothing is joined
+
+-- why parts aren't joined into a certificate with these pins: the fault, with the names of the
+-- files at its places; or what they are joined into has too many nodes
+abbrev pub IsUnjoinedFor : List (List ℕ) → List Certificate → List Trit → Refusal → Type 0
+IsUnjoinedFor names parts pins (refusal.NotJoined told) =
+    (reported : JoinFault ℕ) × (reported ≢ fault.OutOfMemory) × IsJoinFault parts pins reported
+    × (renamed (λ name. name.now) told ≡ renamed (λ place. get_or names place []) reported)
+IsUnjoinedFor names parts pins refusal.TooLong = (whole : Certificate) × IsJoined parts pins whole × (most_nodes < length whole.tree)
+IsUnjoinedFor names parts pins refusal.OutOfMemory = Unit {0}
+IsUnjoinedFor names parts pins other = ⊥
+
+-- the parts aren't joined
+pub record IsNotJoined (text : List ℕ) (reading : Reading) (asked : Join) (texts : List (List ℕ)) (reason : Refusal) : Type 0 where
+  pub netlist : Netlist
+  pub parts : List Certificate
+  pub pins : List Trit
+  pub to_join : IsToJoin text reading asked texts netlist parts pins
+  pub unjoined : IsUnjoinedFor asked.parts parts pins reason
+
+-- why there is nothing to join: the netlist's text, or what is said of pins
+abbrev pub IsUnpinned : List ℕ → Reading → Join → Refusal → Type 0
+IsUnpinned text reading asked refusal.OutOfMemory = Unit {0}
+IsUnpinned text reading asked (refusal.Question found) = IsFaultOf text reading asked.inputs pin_words found
+IsUnpinned text reading asked other = ⊥
+
+abbrev pub IsRefusedJoin : List ℕ → Reading → Join → List (List ℕ) → Refusal → Type 0
+IsRefusedJoin text reading asked texts reason =
+    IsUnpinned text reading asked reason
+    ⊎ (((netlist : Netlist) × HasCircuit text reading netlist × HasNoPart text reading netlist asked.check asked.parts texts reason)
+    ⊎ IsNotJoined text reading asked texts reason)

@@ -1,0 +1,104 @@
+-- What is true of the outcome of a request, by its command.
+use Rattle.std.specs.Prelude.{◌≡◌, ℕ, Bool, true, false, List, Option, Some, None, slice_get}
+use Rattle.std.specs.Global.{Vec}
+use Rattle.td_reading.specs.declared.reading.Reading.{Reading}
+use Rattle.td_search.specs.Problems.{Problem}
+use Rattle.td_question.specs.Asking.{IsAsked}
+use Rattle.td_request.specs.declared.request.Search.{Search}
+use Rattle.td_request.specs.declared.request.Check.{Check}
+use Rattle.td_request.specs.declared.request.Command.{Command}
+use Rattle.td_request.specs.declared.request.Command.TheVariants as command
+use Rattle.td_request.specs.declared.request.Request.{Request}
+use Rattle.td_answer.specs.Bounds.{IsTrueBound, IsRefusedBound}
+use Rattle.td_answer.specs.Certified.{IsCertified}
+use Rattle.td_answer.specs.Infos.{IsTrueInfo, IsRefusedInfo}
+use Rattle.td_answer.specs.Joins.{texts_of, IsTrueJoin, IsRefusedJoin}
+use Rattle.td_answer.specs.Parts.{IsTrueParts, IsRefusedParts}
+use Rattle.td_answer.specs.Paths.{IsTruePath, IsRefusedPath}
+use Rattle.td_answer.specs.Searches.{IsRefusedSearch}
+use Rattle.td_answer.specs.Sentences.{IsTrueWorst}
+use Rattle.td_answer.specs.Simulations.{IsTrueSim, IsRefusedSim}
+use Rattle.td_answer.specs.Tables.{IsTrueTable, IsRefusedTable}
+use Rattle.td_answer.specs.Verdicts.{IsTrueCheck, IsRefusedCheck}
+use Rattle.td_answer.specs.declared.outcome.Outcome.{Outcome}
+use Rattle.td_answer.specs.declared.refusal.Refusal.{Refusal}
+use Rattle.td_answer.specs.declared.refusal.Refusal.TheVariants as refusal
+use Rattle.td_answer.specs.declared.texts.Texts.{Texts}
+
+-- ---- checks
+
+-- the text of the certificate is there, and this is true of it
+abbrev pub IsCheckedTrue : List ℕ → Reading → Option (Vec ℕ) → Outcome → Type 0
+IsCheckedTrue text reading None outcome = ⊥
+IsCheckedTrue text reading (Some spelled) outcome = IsTrueCheck text reading spelled.items outcome
+
+-- or it isn't there, and the refusal names its file
+abbrev pub IsRefusedChecked : List ℕ → Reading → Check → Option (Vec ℕ) → Refusal → Type 0
+IsRefusedChecked text reading asked None reason = reason ≡ refusal.Unread asked.certificate
+IsRefusedChecked text reading asked (Some spelled) reason = IsRefusedCheck text reading spelled.items reason
+
+-- ---- searches
+
+-- for all outputs at once, or for each alone
+abbrev pub IsSearchedTrue : Bool → List ℕ → Reading → Search → Outcome → Type 0
+IsSearchedTrue false text reading asked outcome = IsTrueWorst text reading asked outcome
+IsSearchedTrue true text reading asked outcome = IsTrueTable text reading asked outcome
+
+abbrev pub IsCertifiedSearch : Bool → List ℕ → Reading → Search → Outcome → Type 0
+IsCertifiedSearch false text reading asked outcome = IsCertified text reading asked.question outcome.report outcome.certificate outcome.status
+IsCertifiedSearch true text reading asked outcome = outcome.certificate ≡ None
+
+abbrev pub IsRefusedSearched : Bool → List ℕ → Reading → Search → Refusal → Type 0
+IsRefusedSearched false text reading asked reason = IsRefusedSearch text reading asked reason
+IsRefusedSearched true text reading asked reason = IsRefusedTable text reading asked reason
+
+-- ---- requests
+
+-- it is no search
+abbrev pub IsPlain : Command → Type 0
+IsPlain (command.Worst search) = ⊥
+IsPlain other = Unit {0}
+
+-- what the report and the dump say is true, and the status is what it says
+abbrev pub SaysTrue : Command → List ℕ → Reading → List (Vec ℕ) → Outcome → Type 0
+SaysTrue (command.Sim asked) text reading spelled outcome = IsTrueSim text reading asked outcome
+SaysTrue (command.Path asked) text reading spelled outcome = IsTruePath text reading asked outcome
+SaysTrue (command.Bound asked) text reading spelled outcome = IsTrueBound text reading asked outcome
+SaysTrue (command.Worst asked) text reading spelled outcome = IsSearchedTrue asked.each text reading asked outcome
+SaysTrue (command.Parts asked) text reading spelled outcome = IsTrueParts text reading asked outcome
+SaysTrue (command.Join asked) text reading spelled outcome = IsTrueJoin text reading asked (texts_of spelled) outcome
+SaysTrue (command.Check asked) text reading spelled outcome = IsCheckedTrue text reading (slice_get spelled 0) outcome
+SaysTrue command.Info text reading spelled outcome = IsTrueInfo text reading outcome
+
+-- the certificate
+abbrev pub IsCertifiedBy : Command → List ℕ → Reading → Outcome → Type 0
+IsCertifiedBy (command.Worst asked) text reading outcome = IsCertifiedSearch asked.each text reading asked outcome
+IsCertifiedBy (command.Join asked) text reading outcome = Unit {0}
+IsCertifiedBy other text reading outcome = outcome.certificate ≡ None
+
+-- why there is none
+abbrev pub IsRefusedBy : Command → List ℕ → Reading → List (Vec ℕ) → Refusal → Type 0
+IsRefusedBy (command.Sim asked) text reading spelled reason = IsRefusedSim text reading asked reason
+IsRefusedBy (command.Path asked) text reading spelled reason = IsRefusedPath text reading asked reason
+IsRefusedBy (command.Bound asked) text reading spelled reason = IsRefusedBound text reading asked reason
+IsRefusedBy (command.Worst asked) text reading spelled reason = IsRefusedSearched asked.each text reading asked reason
+IsRefusedBy (command.Parts asked) text reading spelled reason = IsRefusedParts text reading asked reason
+IsRefusedBy (command.Join asked) text reading spelled reason = IsRefusedJoin text reading asked (texts_of spelled) reason
+IsRefusedBy (command.Check asked) text reading spelled reason = IsRefusedChecked text reading asked (slice_get spelled 0) reason
+IsRefusedBy command.Info text reading spelled reason = IsRefusedInfo text reading reason
+
+abbrev pub IsTrueOutcome : Request → Texts → Outcome → Type 0
+IsTrueOutcome request texts outcome = SaysTrue request.command texts.netlist.now request.reading texts.certificates.now outcome
+
+abbrev pub HasCertificate : Request → Texts → Outcome → Type 0
+HasCertificate request texts outcome = IsCertifiedBy request.command texts.netlist.now request.reading outcome
+
+abbrev pub IsRefused : Request → Texts → Refusal → Type 0
+IsRefused request texts reason = IsRefusedBy request.command texts.netlist.now request.reading texts.certificates.now reason
+
+-- ---- the watch
+
+-- what a search is asked
+abbrev pub IsSearched : Command → List ℕ → Reading → Problem → Type 0
+IsSearched (command.Worst search) text reading asked = IsAsked text reading search.question asked.setting asked.admit
+IsSearched other text reading asked = ⊥

@@ -1,0 +1,89 @@
+-- What is true of the outcome of `parts`.
+use Rattle.std.specs.Prelude.{◌≡◌, ◌<◌, ◌≤◌, ◌==◌, ℕ, List, [], ◌∷◌, ◌++◌, if◌then◌else◌, All, map, codes, decimal, length, Option, Some, None}
+use Rattle.td_reading.specs.declared.reading.Reading.{Reading}
+use Rattle.td_reading.specs.Outputs.{output_asked}
+use Rattle.td_circuit.specs.Settings.{Setting}
+use Rattle.td_domain.specs.declared.cubes.Trit.{Trit}
+use Rattle.td_domain.specs.Admits.{Admitted, HasAdmitted}
+use Rattle.td_certificate.specs.Text.{row, trit, first_trits, second_trits}
+use Rattle.td_search.specs.Problems.{IsPart}
+use Rattle.td_search.specs.declared.answers.SearchFault.TheVariants as search
+use Rattle.td_worst.specs.declared.fault.WorstFault.TheVariants as fault
+use Rattle.td_worst.specs.Methods.{tree_of}
+use Rattle.td_join.specs.Partition.{IsPartition}
+use Rattle.td_parts.specs.Whole.{IsWhole}
+use Rattle.td_inputs.specs.Placings.{Placed}
+use Rattle.td_request.specs.declared.request.Parts.{Parts}
+use Rattle.td_question.specs.Asking.{IsAsked, IsQuestionFault, SayTogether}
+use Rattle.td_lines.specs.declared.line.Line.{Line}
+use Rattle.td_lines.specs.declared.line.Line.TheVariants as line
+use Rattle.td_answer.specs.Methods.{method_of}
+use Rattle.td_answer.specs.Searches.{AdmitsNone}
+use Rattle.td_answer.specs.declared.outcome.Outcome.{Outcome}
+use Rattle.td_answer.specs.declared.refusal.Refusal.{Refusal}
+use Rattle.td_answer.specs.declared.refusal.Refusal.TheVariants as refusal
+use Rattle.td_answer.specs.declared.status.Status.TheVariants.{Done}
+
+-- an option and its word, where it is given
+abbrev pub given_words : List ℕ → Option (List ℕ) → List (List ℕ)
+given_words name None = []
+given_words name (Some word) = name ∷ word ∷ []
+
+abbrev pub flips_words : Option ℕ → List (List ℕ)
+flips_words None = []
+flips_words (Some flips) = codes "--flips" ∷ decimal flips ∷ []
+
+-- a default delay, where it isn't that of one step
+abbrev pub default_words : List ℕ → ℕ → List (List ℕ)
+default_words name steps = if steps == 1 then [] else (name ∷ decimal steps ∷ [])
+
+abbrev pub pins_words : List Trit → List (List ℕ)
+pins_words pins = codes "--first" ∷ row trit (first_trits pins) ∷ codes "--second" ∷ row trit (second_trits pins) ∷ []
+
+-- what the question says of the pairs of each part and of moments
+abbrev pub question_words : Placed → Option ℕ → List (List ℕ)
+question_words words flips = given_words (codes "--hold") words.hold ++ flips_words flips ++ given_words (codes "--at") words.at
+
+-- how the netlist's text is read
+abbrev pub reading_words : Reading → List (List ℕ)
+reading_words reading =
+    default_words (codes "--default-rise") reading.default.rise ++ default_words (codes "--default-fall") reading.default.fall
+    ++ given_words (codes "--output") (output_asked reading)
+
+-- the options by which `worst` searches the part with these pins
+abbrev pub part_words : Reading → Placed → Option ℕ → List Trit → List (List ℕ)
+part_words reading words flips pins = pins_words pins ++ question_words words flips ++ reading_words reading
+
+-- the line has the options of each part
+abbrev pub HasParts : List (List (List ℕ)) → Line → Type 0
+HasParts options (line.Parts parts) = map (λ part. part.words.items) parts.items ≡ options
+HasParts options other = ⊥
+
+-- The report has a line for each cube. There are at most as many cubes as parts are asked for, at
+-- least one, and fewer only where a search would split none of them. They share out the admitted
+-- pairs of what the request asks of the text: each pair lies in exactly one cube, and each cube has
+-- one. No cube has a pair that isn't one of the pins. The options by place say what all words of
+-- the request say together.
+pub record IsTrueParts (text : List ℕ) (reading : Reading) (asked : Parts) (outcome : Outcome) : Type 0 where
+  pub setting : Setting
+  pub admit : Admitted
+  pub about : IsAsked text reading asked.question setting admit
+  pub words : Placed
+  pub together : SayTogether setting.netlist asked.question.inputs words
+  pub cubes : List (List Trit)
+  pub partition : IsPartition admit cubes
+  pub any : 0 < length cubes
+  pub few : length cubes ≤ asked.count.parts
+  pub enough : length cubes < asked.count.parts → All (IsWhole (tree_of (method_of asked.strategy)) setting) cubes
+  pub some : All (HasAdmitted admit) cubes
+  pub inside : All (λ cube. IsPart cube admit.pins) cubes
+  pub told : Line
+  pub has : HasParts (map (part_words reading words asked.question.flips) cubes) told
+  pub is : outcome.report ≡ told ∷ []
+  pub ends : outcome.status ≡ Done
+
+abbrev pub IsRefusedParts : List ℕ → Reading → Parts → Refusal → Type 0
+IsRefusedParts text reading asked refusal.OutOfMemory = Unit {0}
+IsRefusedParts text reading asked (refusal.Question found) = IsQuestionFault text reading asked.question found
+IsRefusedParts text reading asked (refusal.Search (fault.Search search.NoPair)) = AdmitsNone text reading asked.question
+IsRefusedParts text reading asked other = ⊥

@@ -1,0 +1,96 @@
+-- What is true of the outcome of a check.
+use Rattle.std.specs.Prelude.{◌≡◌, ◌<◌, ℕ, List, [], ◌∷◌}
+use Rattle.std.specs.Borrow.{Bor}
+use Rattle.td_nets.specs.Netlist.{Netlist}
+use Rattle.td_circuit.specs.Settings.{Setting}
+use Rattle.td_circuit.specs.Run.{IsDelayOfBits}
+use Rattle.td_domain.specs.Pairs.{Pair}
+use Rattle.td_refutation.specs.Asking.{Asking, IsAskedAbout}
+use Rattle.td_reading.specs.declared.reading.Reading.{Reading}
+use Rattle.td_source.specs.Reads.{HasCircuit}
+use Rattle.td_certificate.specs.declared.certificate.Certificate.{Certificate}
+use Rattle.td_certificate.specs.Questions.{asking_of}
+use Rattle.td_certificate.specs.Accepts.{setting_of, IsBoundOf}
+use Rattle.td_certificate.specs.Spelling.{Spells, version_in}
+use Rattle.td_checker.specs.declared.verdict.Verdict.{Verdict}
+use Rattle.td_checker.specs.declared.verdict.Verdict.TheVariants as verdict
+use Rattle.td_checker.specs.Verdicts.{verdict_number, verdict_name, verdict_line}
+use Rattle.td_checker.specs.Checks.{HaveVerdict, IsCheckFault}
+use Rattle.td_lines.specs.declared.line.Line.{Line}
+use Rattle.td_lines.specs.declared.line.Line.TheVariants as line
+use Rattle.td_answer.specs.Claims.{claim_lines, question_lines}
+use Rattle.td_answer.specs.declared.outcome.Outcome.{Outcome}
+use Rattle.td_answer.specs.declared.refusal.Refusal.{Refusal}
+use Rattle.td_answer.specs.declared.refusal.Refusal.TheVariants as refusal
+use Rattle.td_answer.specs.declared.status.Status.{Status}
+use Rattle.td_answer.specs.declared.status.Status.TheVariants as status
+
+-- the line of a verdict that refuses
+abbrev pub IsRefusedLine : Verdict → Line → Type 0
+IsRefusedLine found printed =
+    (name : Bor (List ℕ)) × (name.now ≡ verdict_name found) × (printed ≡ line.Refused (verdict_number found) name (verdict_line found))
+
+abbrev pub AreRefusedLines : Verdict → List Line → Type 0
+AreRefusedLines found report = (printed : Line) × IsRefusedLine found printed × (report ≡ printed ∷ [])
+
+abbrev pub AreVerdictLines : Certificate → Verdict → List Line → Type 0
+AreVerdictLines certificate verdict.Accepted report = report ≡ claim_lines certificate
+AreVerdictLines certificate other report = AreRefusedLines other report
+
+-- how a check ends
+abbrev pub ending_by : Verdict → Status
+ending_by verdict.Accepted = status.Done
+ending_by other = status.Rejected
+
+-- ---- the sentence
+
+-- some pair that is asked about has this delay
+abbrev pub IsReached : Setting → Asking → ℕ → Type 0
+IsReached setting asking time = (pair : Pair) × IsAskedAbout setting.netlist asking pair × IsDelayOfBits setting pair.first pair.second time
+
+-- this is the worst delay of the pairs that are asked about
+abbrev pub IsWorstAsked : Setting → Asking → ℕ → Type 0
+IsWorstAsked setting asking time = IsReached setting asking time × IsBoundOf setting asking time
+
+-- The line is `accepted T`, and T is the worst delay of the pairs that are asked about; or it is
+-- `accepted between T H`, some such pair has the delay T, and none changes an output after H, which
+-- is later.
+abbrev pub IsTrueClaim : Setting → Asking → Line → Type 0
+IsTrueClaim setting asking (line.Accepted time) = IsWorstAsked setting asking time
+IsTrueClaim setting asking (line.AcceptedBetween time high) = IsReached setting asking time × (time < high) × IsBoundOf setting asking high
+IsTrueClaim setting asking other = ⊥
+
+-- The certificate is accepted: its text spells it, and of the pairs that it asks about, in the
+-- netlist that is read of the text and with its moments, the first line is true. The others say
+-- what it is about.
+pub record IsAccepted (text : List ℕ) (reading : Reading) (spelled : List ℕ) (report : List Line) : Type 0 where
+  pub netlist : Netlist
+  pub circuit : HasCircuit text reading netlist
+  pub certificate : Certificate
+  pub spells : Spells certificate spelled
+  pub claim : Line
+  pub is_true : IsTrueClaim (setting_of netlist certificate) (asking_of certificate.question) claim
+  pub is : report ≡ claim ∷ question_lines (version_in certificate) certificate.question
+
+-- one line refuses the certificate, by its verdict
+pub record IsRejected (text : List ℕ) (reading : Reading) (spelled : List ℕ) (report : List Line) : Type 0 where
+  pub found : Verdict
+  pub has : HaveVerdict text reading spelled found
+  pub is : AreRefusedLines found report
+
+-- the request ends with status 0 where the certificate is accepted, and with no other where it
+-- isn't
+abbrev pub IsTrueVerdict : List ℕ → Reading → List ℕ → List Line → Status → Type 0
+IsTrueVerdict text reading spelled report status.Done = IsAccepted text reading spelled report
+IsTrueVerdict text reading spelled report status.Rejected = IsRejected text reading spelled report
+IsTrueVerdict text reading spelled report other = ⊥
+
+abbrev pub IsTrueCheck : List ℕ → Reading → List ℕ → Outcome → Type 0
+IsTrueCheck text reading spelled outcome = IsTrueVerdict text reading spelled outcome.report outcome.status
+
+-- ---- why there is no verdict
+
+abbrev pub IsRefusedCheck : List ℕ → Reading → List ℕ → Refusal → Type 0
+IsRefusedCheck text reading spelled (refusal.Check fault) = IsCheckFault text reading spelled fault
+IsRefusedCheck text reading spelled refusal.OutOfMemory = Unit {0}
+IsRefusedCheck text reading spelled other = ⊥

@@ -1,0 +1,121 @@
+//! The outcome of a request.
+
+ghost use Rattle.std.specs.Prelude.{◌≡◌, ◌⊎◌, slice_get, IfOk, IfErr, None as Nothing};
+ghost use Rattle.td_search.specs.Problems.{Problem};
+ghost use Rattle.td_question.specs.Asking.{IsAsked};
+ghost use Rattle.td_answer.specs.Outcomes.{IsPlain, IsCheckedTrue, IsRefusedChecked, IsSearchedTrue, IsCertifiedSearch, IsRefusedSearched, IsSearched, IsTrueOutcome, HasCertificate, IsRefused};
+ghost use Rattle.td_answer.specs.Writing.{CanBeWritten};
+
+use crate::bound::bounds;
+use crate::check::verdict_on;
+use crate::each::table;
+use crate::info::info;
+use crate::join::join;
+use crate::outcome::Outcome;
+use crate::parts::parts;
+use crate::path::path;
+use crate::refusal::Refusal;
+use crate::sim::sim;
+use crate::texts::Texts;
+use crate::worst::worst;
+use std::alloc::Global;
+use std::sync::Wait;
+use std::thread::Threads;
+use std::time::Clock;
+use td_pool::Watch;
+use td_reading::Reading;
+use td_request::{Check, Command, Request, Search};
+
+/// The outcome of a request on the texts of its files. The watch gets the progress of a search.
+///
+/// # Errors
+///
+/// Why there is none.
+pub fn answer<'n, 'w, 'c, W: Watch, R: Threads + Wait + Clock + Sync>(
+    rt: &R,
+    alloc: Global,
+    request: &Request<'w>,
+    texts: &Texts<'n, 'c>,
+    watch: &mut W,
+) -> Result<Outcome, Refusal<'n, 'w>>
+    ensures says { IfOk result (IsTrueOutcome request.now texts.now) }
+    ensures certified { IfOk result (HasCertificate request.now texts.now) }
+    ensures written { IfOk result CanBeWritten }
+    ensures refusal { IfErr result (IsRefused request.now texts.now) }
+    // The progress that the watch got, if any, is true of what is asked.
+    ensures reported { (watch.new ≡ watch.old)
+        ⊎ ((asked : Problem) × IsSearched request.now.command texts.now.netlist.now request.now.reading asked × W.reported asked watch.old watch.new) }
+{
+    match &request.command {
+        Command::Worst(search) => {
+            searched(rt, alloc, texts.netlist, &request.reading, search, watch)
+        }
+        _ => answer_plain(alloc, request, texts),
+    }
+}
+
+/// As `answer`, without threads, of a request that is no search.
+pub fn answer_plain<'n, 'w, 'c>(
+    alloc: Global,
+    request: &Request<'w>,
+    texts: &Texts<'n, 'c>,
+) -> Result<Outcome, Refusal<'n, 'w>>
+    requires { IsPlain request.now.command }
+    ensures says { IfOk result (IsTrueOutcome request.now texts.now) }
+    ensures certified { IfOk result (HasCertificate request.now texts.now) }
+    ensures written { IfOk result CanBeWritten }
+    ensures refusal { IfErr result (IsRefused request.now texts.now) }
+{
+    let text = texts.netlist;
+    let reading = &request.reading;
+    match &request.command {
+        Command::Check(asked) => return checked(alloc, text, reading, asked, texts.certificates),
+        Command::Sim(asked) => return sim(alloc, text, reading, asked),
+        Command::Path(asked) => return path(alloc, text, reading, asked),
+        Command::Bound(asked) => return bounds(alloc, text, reading, asked),
+        Command::Parts(asked) => return parts(alloc, text, reading, asked),
+        Command::Join(asked) => return join(alloc, text, reading, asked, texts.certificates),
+        Command::Info => return info(alloc, text, reading),
+        Command::Worst(_) => unreachable!(),
+    }
+}
+
+fn searched<'n, 'w, W: Watch, R: Threads + Wait + Clock + Sync>(
+    rt: &R,
+    alloc: Global,
+    text: &'n [u8],
+    reading: &Reading<'_>,
+    search: &Search<'w>,
+    watch: &mut W,
+) -> Result<Outcome, Refusal<'n, 'w>>
+    ensures says { IfOk result (IsSearchedTrue search.now.each text.now reading.now search.now) }
+    ensures certified { IfOk result (IsCertifiedSearch search.now.each text.now reading.now search.now) }
+    ensures written { IfOk result CanBeWritten }
+    ensures refusal { IfErr result (IsRefusedSearched search.now.each text.now reading.now search.now) }
+    ensures reported { (watch.new ≡ watch.old)
+        ⊎ ((asked : Problem) × IsAsked text.now reading.now search.now.question asked.setting asked.admit × W.reported asked watch.old watch.new) }
+{
+    if search.each {
+        return table(rt, alloc, text, reading, search);
+    }
+    worst(rt, alloc, text, reading, search, watch)
+}
+
+/// The verdict on the certificate's text, if it is there.
+fn checked<'n, 'w>(
+    alloc: Global,
+    text: &'n [u8],
+    reading: &Reading<'_>,
+    asked: &Check<'w>,
+    certificates: &[Vec<u8>],
+) -> Result<Outcome, Refusal<'n, 'w>>
+    ensures says { IfOk result (IsCheckedTrue text.now reading.now (slice_get certificates.now 0)) }
+    ensures certified { IfOk result (λ outcome. outcome.certificate ≡ Nothing) }
+    ensures written { IfOk result CanBeWritten }
+    ensures refusal { IfErr result (IsRefusedChecked text.now reading.now asked.now (slice_get certificates.now 0)) }
+{
+    let Some(certificate) = certificates.first() else {
+        return Err(Refusal::Unread(asked.certificate));
+    };
+    verdict_on(alloc, text, reading, certificate)
+}

@@ -1,0 +1,42 @@
+//! From a request and the texts of its files to an outcome. No files, no streams.
+//!
+//!     (Request, Texts) ──answer──▶ Outcome { report, certificate, dump, status }  |  Refusal
+//!
+//! The sentences at the top are the contract of `answer`.
+#![tactic(auto)]
+
+mod answering;
+mod answers;
+mod beside;
+mod bound;
+mod certifying;
+mod check;
+mod claims;
+mod conditions;
+mod each;
+mod gathering;
+mod head;
+mod info;
+mod join;
+mod names;
+mod outcome;
+mod parts;
+mod path;
+mod pins;
+mod refusal;
+mod runs;
+mod sentence;
+mod sim;
+mod status;
+#[cfg(test)]
+mod tests;
+mod texts;
+mod unjoined;
+mod words;
+mod worst;
+
+pub use answering::{answer, answer_plain};
+pub use outcome::{Outcome, Waves};
+pub use refusal::Refusal;
+pub use status::Status;
+pub use texts::Texts;

@@ -1,0 +1,204 @@
+//! The parts of a question, as options by which `worst` searches them.
+
+ghost use Rattle.std.specs.Prelude.{◌≡◌, ◌∷◌, ◌++◌, [], map, decimal, IfOk, IfErr, OnOk, None as Nothing};
+ghost use Rattle.td_inputs.specs.Placings.{words_by_place, text_of};
+ghost use Rattle.td_answer.specs.Parts.{given_words, flips_words, default_words, pins_words, question_words, reading_words, part_words, HasParts, IsTrueParts, IsRefusedParts};
+ghost use Rattle.td_answer.specs.Writing.{CanBeWritten};
+
+use crate::outcome::Outcome;
+use crate::pins::trits;
+use crate::refusal::Refusal;
+use crate::worst::method_of;
+use std::alloc::{AllocError, Global};
+use td_domain::Cube;
+use td_inputs::ByPlace;
+use td_lines::{Label, Line, Part, Report};
+use td_parts::cut;
+use td_question::question_of;
+use td_reading::Reading;
+use td_request::Parts;
+use td_search::{Problem, SearchFault};
+use td_worst::WorstFault;
+
+/// Appends a word.
+fn push_word(alloc: Global, words: &mut Vec<Label>, word: &str) -> Result<(), AllocError>
+    ensures { OnOk result (words.new.items ≡ words.old.items ++ word.now ∷ []) }
+{
+    let word = String::from_str(alloc, word)?;
+    words.push(Label::new(word))?;
+    Ok(())
+}
+
+/// Appends an option and its word.
+fn push_option(
+    alloc: Global,
+    words: &mut Vec<Label>,
+    name: &str,
+    word: &str,
+) -> Result<(), AllocError>
+    ensures { OnOk result (words.new.items ≡ words.old.items ++ name.now ∷ word.now ∷ []) }
+{
+    push_word(alloc, words, name)?;
+    push_word(alloc, words, word)
+}
+
+/// Appends an option as it is given, where it is.
+fn push_given(
+    alloc: Global,
+    words: &mut Vec<Label>,
+    name: &str,
+    word: Option<&str>,
+) -> Result<(), AllocError>
+    ensures { OnOk result (words.new.items ≡ words.old.items ++ given_words name.now (text_of word.entry)) }
+{
+    match word {
+        None => Ok(()),
+        Some(word) => push_option(alloc, words, name, word),
+    }
+}
+
+/// Appends an option and its number.
+fn push_number(
+    alloc: Global,
+    words: &mut Vec<Label>,
+    name: &str,
+    number: u64,
+) -> Result<(), AllocError>
+    ensures { OnOk result (words.new.items ≡ words.old.items ++ name.now ∷ decimal number ∷ []) }
+{
+    let word = format!(in alloc; "{number}")?;
+    push_option(alloc, words, name, &word)
+}
+
+/// Appends the most flips, where they are given.
+fn push_flips(alloc: Global, words: &mut Vec<Label>, flips: Option<u64>) -> Result<(), AllocError>
+    ensures { OnOk result (words.new.items ≡ words.old.items ++ flips_words flips) }
+{
+    match flips {
+        None => Ok(()),
+        Some(flips) => push_number(alloc, words, "--flips", flips),
+    }
+}
+
+/// Appends a default delay, where it isn't that of one step.
+fn push_default(
+    alloc: Global,
+    words: &mut Vec<Label>,
+    name: &str,
+    steps: u32,
+) -> Result<(), AllocError>
+    ensures { OnOk result (words.new.items ≡ words.old.items ++ default_words name.now steps) }
+{
+    if steps == 1 {
+        return Ok(());
+    }
+    push_number(alloc, words, name, u64::from(steps))
+}
+
+/// Appends the pins of a part.
+fn push_pins(alloc: Global, words: &mut Vec<Label>, cube: &Cube) -> Result<(), AllocError>
+    ensures { OnOk result (words.new.items ≡ words.old.items ++ pins_words cube.now) }
+{
+    let first = trits(alloc, cube, false)?;
+    push_option(alloc, words, "--first", &first)?;
+    let second = trits(alloc, cube, true)?;
+    push_option(alloc, words, "--second", &second)
+}
+
+/// Appends what the question says of the pairs of each part and of moments.
+fn push_question(
+    alloc: Global,
+    words: &mut Vec<Label>,
+    placed: &ByPlace,
+    flips: Option<u64>,
+) -> Result<(), AllocError>
+    ensures { OnOk result (words.new.items ≡ words.old.items ++ question_words (words_by_place placed.now) flips) }
+{
+    push_given(alloc, words, "--hold", placed.hold.as_deref())?;
+    push_flips(alloc, words, flips)?;
+    push_given(alloc, words, "--at", placed.at.as_deref())
+}
+
+/// Appends how the netlist's text is read.
+fn push_reading(
+    alloc: Global,
+    words: &mut Vec<Label>,
+    reading: &Reading<'_>,
+) -> Result<(), AllocError>
+    ensures { OnOk result (words.new.items ≡ words.old.items ++ reading_words reading.now) }
+{
+    push_default(alloc, words, "--default-rise", reading.default.rise)?;
+    push_default(alloc, words, "--default-fall", reading.default.fall)?;
+    push_given(alloc, words, "--output", reading.output)
+}
+
+/// The options of one part.
+fn part_of(
+    alloc: Global,
+    cube: &Cube,
+    placed: &ByPlace,
+    flips: Option<u64>,
+    reading: &Reading<'_>,
+) -> Result<Part, AllocError>
+    ensures { IfOk result (λ part. part.words.items ≡ part_words reading.now (words_by_place placed.now) flips cube.now) }
+{
+    let mut words = Vec::new(alloc);
+    push_pins(alloc, &mut words, cube)?;
+    push_question(alloc, &mut words, placed, flips)?;
+    push_reading(alloc, &mut words, reading)?;
+    Ok(Part { words })
+}
+
+/// The line of the parts.
+fn line_of(
+    alloc: Global,
+    cubes: &[Cube],
+    placed: &ByPlace,
+    flips: Option<u64>,
+    reading: &Reading<'_>,
+) -> Result<Line, AllocError>
+    ensures { IfOk result (HasParts (map (part_words reading.now (words_by_place placed.now) flips) cubes.now)) }
+{
+    let mut parts = Vec::new(alloc);
+    for cube in cubes {
+        let part = part_of(alloc, cube, placed, flips, reading)?;
+        parts.push(part)?;
+    }
+    Ok(Line::Parts(parts))
+}
+
+/// A report of one line.
+fn report_of(alloc: Global, line: Line) -> Result<Report, AllocError>
+    ensures { IfOk result (λ report. report ≡ line ∷ []) }
+{
+    let mut report = Report::new(alloc);
+    report.add(line)?;
+    Ok(report)
+}
+
+/// The parts of what a request asks of a text.
+pub(crate) fn parts<'n, 'w>(
+    alloc: Global,
+    text: &'n [u8],
+    reading: &Reading<'_>,
+    asked: &Parts<'w>,
+) -> Result<Outcome, Refusal<'n, 'w>>
+    ensures says { IfOk result (IsTrueParts text.now reading.now asked.now) }
+    ensures certified { IfOk result (λ outcome. outcome.certificate ≡ Nothing) }
+    ensures written { IfOk result CanBeWritten }
+    ensures refusal { IfErr result (IsRefusedParts text.now reading.now asked.now) }
+{
+    let about = question_of(alloc, text, reading, &asked.question)?;
+    let problem = Problem {
+        circuit: &about.circuit,
+        admit: &about.admit,
+        strategy: method_of(asked.strategy).strategy(),
+    };
+    let cubes = cut(alloc, &problem, asked.count.parts as usize)?;
+    if cubes.is_empty() {
+        return Err(Refusal::Search(WorstFault::Search(SearchFault::NoPair)));
+    }
+    let line = line_of(alloc, &cubes, &about.words, asked.question.flips, reading)?;
+    let report = report_of(alloc, line)?;
+    Ok(Outcome::done(report))
+}

@@ -1,0 +1,183 @@
+//! The worst delay.
+
+ghost use Rattle.std.specs.Prelude.{◌≡◌, ◌≤◌, ◌++◌, ◌⊎◌, length, is_some, IfOk, IfErr};
+ghost use Rattle.td_circuit.specs.Numbering.{setting};
+ghost use Rattle.td_search.specs.Problems.{Problem, problem_by};
+ghost use Rattle.td_worst.specs.Methods.{tree_of};
+ghost use Rattle.td_question.specs.Asking.{IsAsked};
+ghost use Rattle.td_answer.specs.Methods.{method_of, seconds_of};
+ghost use Rattle.td_answer.specs.Heads.{head_lines};
+ghost use Rattle.td_answer.specs.Lines.{answer_lines, ending_of, pair_in};
+ghost use Rattle.td_answer.specs.Runs.{RunsPair, TellsPair};
+ghost use Rattle.td_answer.specs.Dumps.{IsDumpWhere};
+ghost use Rattle.td_answer.specs.Additions.{AddsLines};
+ghost use Rattle.td_answer.specs.Certificates.{certificate_in, CanBeTold};
+ghost use Rattle.td_answer.specs.Sentences.{IsTrueWorst};
+ghost use Rattle.td_answer.specs.Certified.{IsCertified};
+ghost use Rattle.td_answer.specs.Searches.{IsRefusedSearch};
+ghost use Rattle.td_answer.specs.Writing.{CanBeWritten};
+
+use crate::answers::{ending_of, pair_in, report_of};
+use crate::beside::push_run;
+use crate::certifying::{Read, certificate};
+use crate::outcome::{Outcome, Waves};
+use crate::refusal::Refusal;
+use crate::runs::run_of;
+use std::alloc::{AllocError, Global};
+use std::sync::Wait;
+use std::thread::Threads;
+use std::time::Clock;
+use td_certificate::Question;
+use td_circuit::Circuit;
+use td_domain::Pair;
+use td_lines::Report;
+use td_pool::{Effort, Watch};
+use td_question::{Asked, question_of};
+use td_reading::Reading;
+use td_request::{Search, Shown};
+use td_search::{Answer, Strategy};
+use td_worst::{Method, TimedEffort};
+
+/// The means of a strategy.
+pub(crate) fn method_of(strategy: td_request::Strategy) -> Method
+    ensures { result ≡ method_of strategy }
+{
+    match strategy {
+        td_request::Strategy::Least => Method::Least,
+        td_request::Strategy::Lead => Method::Lead,
+        td_request::Strategy::Refute => Method::Refute,
+        td_request::Strategy::Auto => Method::Auto,
+    }
+}
+
+/// The seconds after which a search ends, if it is to end so: 136 years where more are given.
+fn seconds_of(given: Option<u64>) -> Option<u32>
+    ensures { result ≡ seconds_of given }
+{
+    match given {
+        Some(seconds) => Some(u32::try_from(seconds).unwrap_or(u32::MAX)),
+        None => None,
+    }
+}
+
+/// How a search goes.
+pub(crate) fn effort_of(effort: &td_request::Effort) -> TimedEffort
+    ensures workers { result.effort.workers ≡ effort.now.workers }
+    ensures budget { result.effort.budget ≡ effort.now.budget }
+    ensures timed { is_some result.seconds ≡ is_some effort.now.seconds }
+{
+    TimedEffort {
+        effort: Effort {
+            workers: effort.workers,
+            budget: u64::from(effort.budget),
+        },
+        seconds: seconds_of(effort.seconds),
+    }
+}
+
+/// The waves of a pair's run, where they are asked for.
+fn dump_of(
+    alloc: Global,
+    circuit: Circuit,
+    pair: &Pair,
+    is_asked: bool,
+) -> Result<Option<Waves>, AllocError>
+    requires first_fits { length pair.now.first ≡ length circuit.netlist.inputs }
+    requires second_fits { length pair.now.second ≡ length circuit.netlist.inputs }
+    ensures { IfOk result (IsDumpWhere is_asked (setting circuit) (RunsPair (setting circuit) pair.now)) }
+{
+    if !is_asked {
+        return Ok(None);
+    }
+    let run = run_of(alloc, &circuit, pair)?;
+    Ok(Some(Waves { circuit, run }))
+}
+
+/// The report of an answer, and after it what is asked of its pair's run.
+fn reported(
+    alloc: Global,
+    circuit: &Circuit,
+    answer: &Answer,
+    shown: Shown,
+) -> Result<Report, AllocError>
+    requires first_fits { length (pair_in answer.now).first ≡ length circuit.now.netlist.inputs }
+    requires second_fits { length (pair_in answer.now).second ≡ length circuit.now.netlist.inputs }
+    ensures { IfOk result (AddsLines (TellsPair shown (setting circuit.now) (pair_in answer.now)) (head_lines circuit.now.netlist ++ answer_lines answer.now)) }
+{
+    let mut report = report_of(alloc, circuit, answer)?;
+    push_run(alloc, &mut report, circuit, pair_in(answer), shown)?;
+    Ok(report)
+}
+
+/// What is shown and kept of an answer to what is asked.
+fn outcome_of(
+    alloc: Global,
+    asked: Asked,
+    read: Read,
+    strategy: Strategy,
+    answer: Answer,
+    search: &Search<'_>,
+) -> Result<Outcome, AllocError>
+    requires flips { asked.admit.flips ≤ length asked.admit.held }
+    requires first_fits { length (pair_in answer).first ≡ length asked.circuit.netlist.inputs }
+    requires second_fits { length (pair_in answer).second ≡ length asked.circuit.netlist.inputs }
+    ensures report { IfOk result (λ outcome. AddsLines (TellsPair search.now.shown (setting asked.circuit) (pair_in answer))
+        (head_lines asked.circuit.netlist ++ answer_lines answer) outcome.report) }
+    ensures certified { IfOk result (λ outcome. outcome.certificate ≡ certificate_in read (problem_by strategy asked.circuit asked.admit) answer) }
+    ensures told { IfOk result (λ outcome. CanBeTold read strategy answer) }
+    ensures dumped { IfOk result (λ outcome. IsDumpWhere (is_some search.now.dump) (setting asked.circuit)
+        (RunsPair (setting asked.circuit) (pair_in answer)) outcome.dump) }
+    ensures status { IfOk result (λ outcome. outcome.status ≡ ending_of answer) }
+{
+    let Asked { circuit, admit, .. } = asked;
+    let report = reported(alloc, &circuit, &answer, search.shown)?;
+    let status = ending_of(&answer);
+    let pair = pair_in(&answer).copy(alloc)?;
+    let moments = Vec::from_slice(alloc, circuit.moments())?;
+    let question = Question::new(admit, moments);
+    let certificate = certificate(alloc, &circuit, question, read, strategy, answer)?;
+    let dump = dump_of(alloc, circuit, &pair, search.dump.is_some())?;
+    Ok(Outcome {
+        report,
+        certificate,
+        dump,
+        status,
+        verdict: None,
+    })
+}
+
+/// The search for the worst delay of what a request asks of a text.
+pub(crate) fn worst<'n, 'w, W: Watch, R: Threads + Wait + Clock + Sync>(
+    rt: &R,
+    alloc: Global,
+    text: &'n [u8],
+    reading: &Reading<'_>,
+    search: &Search<'w>,
+    watch: &mut W,
+) -> Result<Outcome, Refusal<'n, 'w>>
+    ensures says { IfOk result (IsTrueWorst text.now reading.now search.now) }
+    ensures certified { IfOk result (λ outcome. IsCertified text.now reading.now search.now.question outcome.report outcome.certificate outcome.status) }
+    ensures written { IfOk result CanBeWritten }
+    ensures refusal { IfErr result (IsRefusedSearch text.now reading.now search.now) }
+    ensures reported { (watch.new ≡ watch.old)
+        ⊎ ((asked : Problem) × IsAsked text.now reading.now search.now.question asked.setting asked.admit × W.reported asked watch.old watch.new) }
+{
+    let asked = question_of(alloc, text, reading, &search.question)?;
+    let method = method_of(search.strategy);
+    let effort = effort_of(&search.effort);
+    let answer = td_worst::worst(
+        rt,
+        alloc,
+        &asked.circuit,
+        &asked.admit,
+        method,
+        effort,
+        watch,
+    )?;
+    let read = Read {
+        default: reading.default,
+        output: asked.output,
+    };
+    let outcome = outcome_of(alloc, asked, read, method.strategy(), answer, search)?;
+    Ok(outcome)
+}
