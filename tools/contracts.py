@@ -61,6 +61,7 @@ MAIN = {
     "td_advice": ["advise"],
     "td_terminal": ["new"],
     "td_question": ["question_of"],
+    "td_answer": ["answer", "answer_plain"],
 }
 
 
