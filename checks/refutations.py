@@ -6,11 +6,11 @@ Makes small random circuits and questions, with conditions (lib/conditions.py) a
 each of them certificates whose trees have leaves by spans among others (lib/refuting.py): good
 ones; ones with lines of such leaves changed, taken away, doubled or put elsewhere, with lines put
 in (lib/tampering.py), and with lesser claims, all that is late being sooner; ones with changed
-conditions; leaves of random steps; and those that `worst` writes. The program has to accept the
-good ones. Of each certificate both have to say the same, verdict and line, or fault of
+conditions; leaves of random steps; those that `worst` writes; and ones that claim that no pair is
+admitted, of questions that have none. The program has to accept the good ones. Of each certificate both have to say the same, verdict and line, or fault of
 the text and line. What the program takes has to be true by an event queue (lib/event_queue.py),
 which knows no spans: the time of a certificate that it accepts is the greatest delay of all
-admitted pairs; and up to the line that it refuses, each clause of a leaf holds in each run of the
+admitted pairs, and where none is claimed, there is none; and up to the line that it refuses, each clause of a leaf holds in each run of the
 leaf's admitted pairs, and no net changes later than its end says. The example of
 docs/CERTIFICATE.md, with the changes that stand after it, comes first. A case is one certificate.
 The files of the first difference are kept in DIR, where `--keep DIR` names one.
@@ -48,6 +48,20 @@ CHANGES = [
     ("\nkeep none\n", "\nkeep 8 .0\n", "refused 7 OtherCircuit"),
     ("\nkeep none\n", "\nkeep 7 ..\n", "certificate fault 1 Syntax at line 10"),
 ]
+# What the page says of its netlist with a condition that no pair keeps, by the lines after `keep`.
+NONE = "time none|x|f 3|f 5|f 6|f 7|k 6|t 7 2|t 7 4|t 3 0|t 5 1|l 0 0 1 2 3 4|q none"
+NONE_CHANGES = [
+    ("", "", "accepted none"),
+    ("|l 0 0 1 2 3 4", "", "refused 9 LeafNotEmpty line 22"),
+    ("|q none", "|q 9", "refused 9 LeafNotEmpty line 23"),
+    (" 3 4|", " 3|", "refused 10 BadStep line 22"),
+    (NONE, "time none|none", "refused 9 LeafNotEmpty line 12"),
+    (NONE, "time none|b e 8", "refused 9 LeafNotEmpty line 12"),
+    (NONE, "time none|x|q none", "refused 9 LeafNotEmpty line 13"),
+    (NONE, "time none|p 0", "refused 9 LeafNotEmpty line 12"),
+    ("time none", "time none|high 0", "certificate fault 1 Syntax at line 12"),
+    ("time none", "time 3|high 3|from 11|to 10", "refused 8 PairNotAdmitted"),
+]
 # The most pairs that are run.
 PAIRS = 1024
 # The place of the line of conditions.
@@ -78,11 +92,26 @@ def worst_pair(circuit, question):
 # ---- Trees with leaves by spans ----
 
 
+def leaf_of_none(rng, circuit, question, cube):
+    """The lines of some leaf that says that no admitted pair lies in a cube, None where one may or
+    where the cube is to be split.
+    """
+    may = opinion.may_lie(circuit, question, cube)
+    if not may and rng.random() < 0.5:
+        return ["none"]
+    if rng.random() < (0.2 if may else 0.7):
+        lines = refuting.none_lines(rng, circuit, question, cube)
+        if lines is not None:
+            return ["x", *lines, "q none"]
+    return None if X in cube or may else ["none"]
+
+
 def leaf_of(rng, circuit, question, cube, time):
     """The lines of some leaf that is good for a cube, None where the cube is to be split."""
     free = X in cube
-    if rng.random() < 0.8 and not opinion.may_lie(circuit, question, cube):
-        return ["none"]
+    empty = leaf_of_none(rng, circuit, question, cube)
+    if empty is not None:
+        return empty
     if rng.random() < 0.6:
         bound = time if rng.random() < 0.6 else rng.randint(0, time)
         lines = refuting.leaf_lines(rng, circuit, question, cube, bound)
@@ -100,8 +129,8 @@ def leaf_of(rng, circuit, question, cube, time):
 
 
 def tree_lines(rng, circuit, question, time, most):
-    """The lines of a tree that shows a time, None where no leaf came to be one by spans, or where
-    there are too many leaves.
+    """The lines of a tree that shows a time, or, where it is None, that no pair is admitted; None
+    where no leaf came to be one by spans, or where there are too many leaves.
     """
     cubes, lines, leaves = [question.pins], [], 0
     while cubes:
@@ -109,7 +138,10 @@ def tree_lines(rng, circuit, question, time, most):
         free = [position for position, level in enumerate(cube) if level == X]
         found = None
         if not free or lines or rng.random() < 0.6:
-            found = leaf_of(rng, circuit, question, cube, time)
+            if time is None:
+                found = leaf_of_none(rng, circuit, question, cube)
+            else:
+                found = leaf_of(rng, circuit, question, cube, time)
         if found is None:
             position = rng.choice(free)
             found = [f"s {position}"]
@@ -134,12 +166,14 @@ def random_leaf(rng, circuit, question, time):
 
 
 def head_lines(circuit, defaults, question, time, pair):
-    """The lines of a certificate of version 4 before its tree."""
+    """The lines of a certificate of version 4 before its tree; the time and the pair are None where
+    none is claimed.
+    """
     return [
         "tdelay-cert 4",
         f"circuit {circuit.inputs} {len(circuit.gates)}",
         *opinions.question_lines(4, defaults, question),
-        *opinions.claim_lines(4, time, time, pair),
+        *(["time none"] if pair is None else opinions.claim_lines(4, time, time, pair)),
     ]
 
 
@@ -154,7 +188,8 @@ def kinds_of(answer, origin, line, letters):
     taken = [f"good {letter}" for letter in letters]
     if status == 0:
         keeps = ["accepted, conditions"] * ("\nkeep " in out)
-        return ["accepted", f"accepted, {origin}", *keeps, *taken]
+        nones = ["accepted, none"] * out.startswith("accepted none\n")
+        return ["accepted", f"accepted, {origin}", *keeps, *nones, *taken]
     verdict = re.match(r"refused \d+ (\w+)", out)
     kind = re.match(r"tdelay: certificate fault \d+ (\w+)", fault)
     bad = [f"bad {line[:1]}"] * ("BadStep" in out)
@@ -162,11 +197,14 @@ def kinds_of(answer, origin, line, letters):
 
 
 def is_true(setup, certificate):
-    """Whether the greatest delay of a certificate's admitted pairs is what it says."""
+    """Whether the greatest delay of a certificate's admitted pairs is what it says, or there is no
+    such pair where it says so.
+    """
     read = opinion.read_certificate(certificate)
-    latest = event_queue.latest_change(
-        setup.circuit, pairs_of(setup.circuit, read.question), read.question.moments
-    )
+    pairs = pairs_of(setup.circuit, read.question)
+    if read.pair is None:
+        return not pairs
+    latest = event_queue.latest_change(setup.circuit, pairs, read.question.moments)
     return read.time <= latest <= read.high
 
 
@@ -211,6 +249,9 @@ def compare_example(tested):
     setup.defaults, setup.steps = [], opinion.Delays(1, 1)
     for old, new, wanted in CHANGES:
         compare(setup, example.replace(old, new, 1).encode(), "of the page", wanted)
+    head = example.partition("\nkeep none\n")[0].splitlines() + ["keep 7 .1"]
+    for old, new, wanted in NONE_CHANGES:
+        compare(setup, head + NONE.replace(old, new, 1).split("|"), "of the page", wanted)
 
 
 def changed(rng, head, tree):
@@ -276,6 +317,25 @@ def compare_own(setup, question, worst, pair):
             compare(setup, less, "a lesser claim")
 
 
+def compare_none(setup, question):
+    """Compares certificates that no pair is admitted, of a question of which that is true."""
+    rng, circuit = setup.rng, setup.circuit
+    head = head_lines(circuit, setup.steps, question, None, None)
+    leaf = random_leaf(rng, circuit, question, 0)
+    compare(setup, head + leaf[:-1] + [rng.choice(["q none", leaf[-1]])], "random steps")
+    tree = tree_lines(rng, circuit, question, None, rng.choice([1, 8, 60]))
+    if not tree:
+        return
+    compare(setup, head + tree, "no pair", "accepted none")
+    for _ in range(4):
+        compare(setup, changed(rng, head, tree), "changed")
+    pair = [0 if pin == X else pin for pin in question.pins]
+    compare(setup, head_lines(circuit, setup.steps, question, 0, pair) + tree, "a lesser claim")
+    # The same tree, of a question that admits pairs.
+    wide = question._replace(keep=question.keep[1:])
+    compare(setup, head_lines(circuit, setup.steps, wide, None, None) + tree, "changed")
+
+
 def compare_circuit(tested, rng):
     """Makes a circuit and certificates for it, and compares what is said of them."""
     kind = rng.random()
@@ -300,6 +360,9 @@ def compare_circuit(tested, rng):
         worst = worst_pair(circuit, asked)
         if worst:
             compare_own(setup, asked, *worst)
+        keep = conditions.excluding(rng, circuit, pairs, question)
+        if keep is not None:
+            compare_none(setup, question._replace(keep=keep))
 
 
 def work(tested):
@@ -316,10 +379,11 @@ def shares(tested, _cut):
 SHARES = {
     "accepted": 0.1,
     "accepted, spans alone": 0.02,
-    "accepted, mixed leaves": 0.01,
+    "accepted, mixed leaves": 0.005,
     "accepted, changed": 0.02,
     "accepted, of a search": 0.01,
     "accepted, random steps": 0.01,
+    "accepted, none": 0.02,
     "BadStep": 0.1,
     "LeafBound": 0.02,
     "LeafAboveTime": 0.002,

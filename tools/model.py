@@ -26,14 +26,14 @@ from crates import lower_first, uses_of  # noqa: E402
 FIGURES_IN = "docs/model/README.md"
 # The figures that the first page gives: what it calls them, and what they are of.
 FIGURES = {
-    "the sentence at the top": (["td_cli::Sentences::IsTrueReport"], []),
-    "the sentence of `check`": (["td_cli::Sentences::IsTrueCheck"], []),
+    "the sentence at the top": (["td_answer::Sentences::IsTrueWorst"], []),
+    "the sentence of `check`": (["td_answer::Verdicts::IsTrueCheck"], []),
     "the worst delay of admitted pairs": (["td_domain::Worst::IsWorst"], []),
     "an answer of a search, without the meaning of a text": (["td_search::alone"], ["Means"]),
     "the meaning of a text": (["td_netlist::Means::Means"], []),
     "an accepted certificate": (["td_certificate::Accepts::Accepts"], []),
     "what the checker tells, faults included": (["td_checker::check"], []),
-    "what the program writes, faults included": (["td_cli::run"], []),
+    "what the program prints, refusals included": (["td_cli::run"], []),
 }
 
 TOKEN = re.compile(r"[^\s(){}\[\],;λ]+")

@@ -48,7 +48,7 @@ Line = namedtuple("Line", "letter domain number")
 INNER = re.compile(rf"[{VARIABLES}{STEPS}][0-9 ]*\n")
 ODD = re.compile(r"\A.[0-9]|  | \n| 0[0-9]|[0-9]{19}")
 # `asked` are the lines of the question as they stand in the text, and `pair` is a cube. `terms` are
-# None where the text tells none.
+# None where the text tells none; so are `time`, `high` and `pair` where no pair is claimed.
 Certificate = namedtuple("Certificate", "inputs gates terms question asked time high pair tree")
 
 
@@ -202,8 +202,17 @@ def lines_of_leaf(text):
             continue
         letter = text.one_of(VARIABLES + STEPS + "q")
         if letter == "q":
-            return [*lines, Line(letter, None, text.number(" ", "\n"))]
+            return [*lines, Line(letter, None, number_or_none(text, " "))]
         lines.append(Line(letter, None, text.numbers()))
+
+
+def number_or_none(text, front):
+    """A number that ends a line, None for the word `none`."""
+    text.word(front)
+    if text.text.startswith("n", text.place):
+        text.word("none\n")
+        return None
+    return text.number("", "\n")
 
 
 # The letters with which lines of a tree begin, by the version, and those of its domains.
@@ -228,6 +237,16 @@ def tree_in(text, version):
     return lines
 
 
+def claim_in(text, version, inputs):
+    """The time, the bound and the pair, all None where no pair is claimed."""
+    time = number_or_none(text, "time ") if version == 4 else text.number("time ", "\n")
+    if time is None:
+        return None, None, None
+    high = text.number("high ", "\n") if version == 4 else time
+    fronts = ("from ", "to ")
+    return time, high, woven(*(levels_of(text.symbols(it, "01", inputs)) for it in fronts))
+
+
 def read_certificate(text):
     """The certificate that the bytes spell; Refusal where they spell none."""
     text = Text(text.decode("latin-1"))
@@ -242,11 +261,9 @@ def read_certificate(text):
     if version == 4:
         question = question._replace(keep=conditions_in(text))
     asked = text.text[begin : text.place]
-    time = text.number("time ", "\n")
-    high = text.number("high ", "\n") if version == 4 else time
-    pair = woven(*(levels_of(text.symbols(front, "01", inputs)) for front in ("from ", "to ")))
+    claim = claim_in(text, version, inputs)
     tree = tree_in(text, version)
-    certificate = Certificate(inputs, gates, terms, question, asked, time, high, pair, tree)
+    certificate = Certificate(inputs, gates, terms, question, asked, *claim, tree)
     if text.place < len(text.text):
         text.fault(Fault.Trailing)
     return certificate
@@ -306,12 +323,21 @@ def is_fit(circuit, keep):
     return rises and all(2 <= number < end for number, _ in keep)
 
 
+def judge_end(leaf, high, number):
+    """What is wrong with the line `q` of a leaf by spans, None where nothing is."""
+    if number is None:
+        return None if leaf.has_no_pair() else Verdict.LeafNotEmpty
+    if high is None:
+        return Verdict.LeafNotEmpty
+    late = Verdict.LeafAboveTime if number > high else None
+    return late if leaf.is_within(number) else Verdict.LeafBound
+
+
 def judge_in_leaf(leaf, high, line):
     """What is wrong with a line of a leaf by spans, None where nothing is."""
     letter, _, number = line
     if letter == "q":
-        late = Verdict.LeafAboveTime if number > high else None
-        return late if leaf.is_within(number) else Verdict.LeafBound
+        return judge_end(leaf, high, number)
     try:
         return leaf.line(letter, [int(word) for word in number.split()])
     except BadStep:
@@ -327,6 +353,8 @@ def judge_line(circuit, question, high, cube, line):
         return None if number < len(cube) and cube[number] == X else Verdict.BadPosition
     if letter == "n":
         return Verdict.LeafNotEmpty if may_lie(circuit, question, cube) else None
+    if high is None:
+        return Verdict.LeafNotEmpty
     if letter == "p":
         if X in cube:
             return Verdict.NotAPoint
@@ -339,7 +367,8 @@ def judge_line(circuit, question, high, cube, line):
 
 def first_line(certificate):
     """The line of the text on which the tree begins."""
-    return 6 + certificate.asked.count("\n") + (certificate.terms is not None)
+    of_claim = 3 if certificate.terms is None else 1 if certificate.pair is None else 4
+    return 3 + certificate.asked.count("\n") + of_claim
 
 
 def verdict(circuit, told, certificate):
@@ -351,10 +380,11 @@ def verdict(circuit, told, certificate):
         return Verdict.OtherCircuit, None
     if terms and terms != told:
         return Verdict.OtherQuestion, 3 if terms.defaults != told.defaults else 4
-    if not may_lie(circuit, question, certificate.pair):
-        return Verdict.PairNotAdmitted, None
-    if delay_of_pair(circuit, certificate.pair, question.moments) != certificate.time:
-        return Verdict.PairTime, None
+    if certificate.pair is not None:
+        if not may_lie(circuit, question, certificate.pair):
+            return Verdict.PairNotAdmitted, None
+        if delay_of_pair(circuit, certificate.pair, question.moments) != certificate.time:
+            return Verdict.PairTime, None
     cubes, leaf = [question.pins], None
     for number, line in enumerate(certificate.tree, first_line(certificate)):
         if leaf:
@@ -397,6 +427,14 @@ def told_lines(certificate):
     return "".join(it for it in certificate.asked.splitlines(True) if not plain.fullmatch(it))
 
 
+def claim_line(certificate):
+    """The line that `check` prints of an accepted certificate."""
+    time, high = certificate.time, certificate.high
+    if time is None:
+        return "accepted none"
+    return f"accepted {time}" if time == high else f"accepted between {time} {high}"
+
+
 def check(circuit, defaults, output, text):
     """`check` of a certificate's text, of all outputs or the one of a name."""
     outputs = None
@@ -408,9 +446,7 @@ def check(circuit, defaults, output, text):
     certificate = read_certificate(text)
     found, line = verdict(circuit, Terms(defaults, outputs), certificate)
     if found == Verdict.Accepted:
-        time, high = certificate.time, certificate.high
-        claim = f"accepted {time}" if time == high else f"accepted between {time} {high}"
-        return report([claim]) + told_lines(certificate), "", 0
+        return report([claim_line(certificate)]) + told_lines(certificate), "", 0
     place = f" line {line}" if line else ""
     return report([f"refused {found.value} {found.name}{place}"]), "", 4
 

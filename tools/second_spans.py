@@ -296,6 +296,10 @@ class Leaf:
             require(all(literal < 2 * len(self.variables) for literal in clause))
             self.clauses.append(frozenset(clause))
 
+    def has_no_pair(self):
+        """Whether the last clause is empty."""
+        return bool(self.clauses) and not self.clauses[-1]
+
     def is_within(self, moment):
         """Whether no output changes later than at a moment, by the ends."""
         return all(end <= moment + 1 for net in self.circuit.outputs for end in self.ends[net])

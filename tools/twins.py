@@ -15,11 +15,8 @@ from collections import defaultdict
 
 from model import definitions_of
 
-# As many groups stand today, most of them since crates that take over from others stand beside
-# these: `td_lines` and `td_answer` beside `td_report`, `td_question` and `td_answer` beside
-# `td_cli`, `td_spans` beside `td_refutation`. Who takes one away lowers this, so that none comes
-# back.
-GROUPS = 80
+# As many groups stand today. Who takes one away lowers this, so that none comes back.
+GROUPS = 20
 SHORT = 12  # a body of fewer letters says too little to be a copy
 NAMES = re.compile(r"data _ : Type 0 where( _ : _)+")  # only names, which say nothing else
 

@@ -52,6 +52,17 @@ def random_conditions(rng, circuit, pairs, moments):
     return sorted(found)
 
 
+def excluding(rng, circuit, pairs, question):
+    """Some conditions that none of the pairs keeps; None where no try gives such."""
+    for _ in range(20):
+        count = rng.choice([1, 2, 2, 3] if pairs else [0, 0, 1])
+        most = 2 + circuit.inputs + len(circuit.gates)
+        keep = sorted({(rng.randrange(2, most), rng.choice(FORMS)) for _ in range(count)})
+        if not kept(circuit, pairs, question._replace(keep=keep)):
+            return keep
+    return None
+
+
 def changed(rng, line):
     """The line `keep` of a text with another net or form, or another order, or one condition more
     or less.

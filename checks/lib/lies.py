@@ -30,6 +30,13 @@ SLOW = """count=$(grep -Ec 'BOzJL94H9NC|jlND7_n.2xC' t.v)
 [ "$count" -gt 5000 ] && timeout 8 sh -c 'while :; do :; done'
 exec $R "$@" """
 
+# The place of the pinned input is that of one reading of the file, the answer that of another.
+PLACED_BEFORE = """[ "$3 $4" = "--pin b=1" ] || exec $R "$@"
+place=$($R info "$2" | awk '$1 == "input" && $3 == "b" { print $2 }')
+sleep 0.002
+if [ "$place" = 0 ]; then set -- 1.; else set -- .1; fi
+exec $R worst t.v --first "$1" --second "$1" """
+
 # Of each check the lies that it has to find, by what they are: a script, or the number of a lie of
 # lying.c.
 LIES = {
@@ -84,6 +91,7 @@ LIES = {
     "refused_growths": {"a search after its root is out of memory": 1},
     "real": {"a time that is one less": where("worst", MORE.format(key="exact", by=-1))},
     "strategies": {"a time that is one less": where("lead", MORE.format(key="exact", by=-1))},
+    "swaps": {"a place of another reading": PLACED_BEFORE},
     "tables": {
         "a time that is one more": where("worst", MORE.format(key="exact", by=1)),
         "a joined time that is one more": where("join", MORE.format(key="exact", by=1)),

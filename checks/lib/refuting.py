@@ -1,5 +1,6 @@
-"""Leaves by spans for small circuits: `leaf_lines` writes one that is good, and `random_lines` one
-of random steps (docs/CERTIFICATE.md, "Leaves by spans").
+"""Leaves by spans for small circuits: `leaf_lines` writes one that is good, `none_lines` one that
+shows that no admitted pair lies in a cube, and `random_lines` one of random steps
+(docs/CERTIFICATE.md, "Leaves by spans").
 
 That an output is at rest is shown by a tree over the inputs' bits. Where some bits are known, nets
 surely are at a level at some places, gate after gate; where that is enough, the steps on the way to
@@ -20,6 +21,8 @@ Fact = namedtuple("Fact", "span literal of")
 # How a net is to be shown at rest: the literals of which one holds; the net, and at which levels it
 # may be from which place on; and the literal that its last level is another one, if any.
 Goal = namedtuple("Goal", "literals net levels place last")
+# That no run is there.
+NO_RUN = Goal([], None, (), 0, None)
 
 
 class TooLong(Exception):
@@ -96,14 +99,15 @@ def others_than(form, known):
 
 
 class Proof:
-    """That a net is at rest, as a tree over the bits of the inputs."""
+    """That a net is at rest, or that no run is there, as a tree over the bits of the inputs."""
 
     def __init__(self, leaf, goal, branches):
         self.leaf, self.goal, self.branches = leaf, goal, branches
-        self.nets = in_cone(leaf.circuit, goal.net)
-        asked = [net for net, _ in leaf.state.keep]
-        cones = [net for each in [goal.net, *asked] for net in in_cone(leaf.circuit, each)]
-        inputs = [net for net in dict.fromkeys(cones) if net < leaf.circuit.inputs]
+        self.nets = [] if goal.net is None else in_cone(leaf.circuit, goal.net)
+        asked = [each for net, _ in leaf.state.keep for each in in_cone(leaf.circuit, net)]
+        others = range(leaf.circuit.inputs) if goal.net is None else []
+        cones = dict.fromkeys([*self.nets, *asked, *others])
+        inputs = [net for net in cones if net < leaf.circuit.inputs]
         cube = leaf.state.cube
         # The literals of the facts that are written for the goal, by their spans.
         self.written = {}
@@ -176,7 +180,7 @@ class Proof:
     def reached(self, facts):
         """The hints by which the facts reach the goal and the bits that are used, or None."""
         hints, used, goal, self.written = [], [], self.goal, {}
-        for fact in facts[goal.net]:
+        for fact in facts.get(goal.net, ()):
             span = fact.span
             if span.last == EVER and span.level in goal.levels and span.first <= goal.place:
                 wanted = self.leaf.span(Span(goal.net, span.level, goal.place, EVER))
@@ -346,6 +350,20 @@ def leaf_lines(rng, circuit, question, cube, bound, branches=60):
     except TooLong:
         return None
     return leaf.lines()
+
+
+def none_lines(rng, circuit, question, cube, branches=200):
+    """The lines of a leaf by spans that is good, without `x` and `q none`, or None as above."""
+    leaf = Written(circuit, question, cube, rng)
+    try:
+        if rng.random() < 0.3:
+            chatter(leaf, rng.choice([1, 10]), [])
+        found = Proof(leaf, NO_RUN, branches).shown({})
+    except TooLong:
+        return None
+    if found and (not leaf.state.has_no_pair() or rng.random() < 0.5):
+        leaf.lemma([], found[0])
+    return found and leaf.lines()
 
 
 # ---- Random steps ----

@@ -50,9 +50,13 @@ def changed_words(rng, words):
 
 
 def changed_end(rng, lines, place):
-    """Another number after `q`, mostly a lesser one."""
+    """Another number after `q`, mostly a lesser one, or `none`."""
     number = lines[place].partition(" ")[2]
-    if number.isdigit():
+    if number == "none":
+        lines[place] = f"q {rng.choice([0, 5, 40])}"
+    elif number.isdigit() and rng.random() < 0.1:
+        lines[place] = "q none"
+    elif number.isdigit():
         less = max(0, int(number) - rng.choice([0, 1, 1, 2, int(number)]))
         lines[place] = f"q {rng.choice([less, less, int(number) + 1])}"
 

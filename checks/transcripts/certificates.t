@@ -181,6 +181,18 @@ draft of it is none.
   > 1 Syntax at line 12|tdelay-cert 4/circuit 1 1/default 1 1/output all/first ./second ./hold ./flips 1/at 0/keep none/time 3/from
   > 4 NumberTooLarge at line 12|tdelay-cert 4/circuit 1 1/default 1 1/output all/first ./second ./hold ./flips 1/at 0/keep none/time 3/high 1000000000000000001
   > 2 UnexpectedEnd at line 13|tdelay-cert 4/circuit 1 1/default 1 1/output all/first ./second ./hold ./flips 1/at 0/keep none/time 3/high 3/
+  > 2 UnexpectedEnd at line 11|tdelay-cert 4/circuit 1 1/default 1 1/output all/first ./second ./hold ./flips 1/at 0/keep none/time n
+  > 2 UnexpectedEnd at line 12|tdelay-cert 4/circuit 1 1/default 1 1/output all/first ./second ./hold ./flips 1/at 0/keep none/time none/
+  > 1 Syntax at line 11|tdelay-cert 4/circuit 1 1/default 1 1/output all/first ./second ./hold ./flips 1/at 0/keep none/time n0/
+  > 1 Syntax at line 11|tdelay-cert 4/circuit 1 1/default 1 1/output all/first ./second ./hold ./flips 1/at 0/keep none/time none 3/
+  > 1 Syntax at line 12|tdelay-cert 4/circuit 1 1/default 1 1/output all/first ./second ./hold ./flips 1/at 0/keep none/time none/high 3/
+  > 1 Syntax at line 12|tdelay-cert 4/circuit 1 1/default 1 1/output all/first ./second ./hold ./flips 1/at 0/keep none/time none/from 0/to 1/none/
+  > read|tdelay-cert 4/circuit 1 1/default 1 1/output all/first ./second ./hold ./flips 1/at 0/keep none/time none/none/
+  > read|tdelay-cert 4/circuit 1 1/default 1 1/output all/first ./second ./hold ./flips 1/at 0/keep none/time none/b e 3/
+  > 3 Trailing at line 13|tdelay-cert 4/circuit 1 1/default 1 1/output all/first ./second ./hold ./flips 1/at 0/keep none/time none/none/none/
+  > 1 Syntax at line 3|tdelay-cert 1/circuit 1 1/time none/
+  > 1 Syntax at line 7|tdelay-cert 2/circuit 1 1/first ./second ./hold ./flips 0/time none/
+  > 1 Syntax at line 8|tdelay-cert 3/circuit 1 1/first ./second ./hold ./flips 1/at 7/time none/
   > 1 Syntax at line 5|tdelay-cert 4/circuit 0 1/default 1 1/output all/first /
   > 2 UnexpectedEnd at line 9|tdelay-cert 4/circuit 0 1/default 1 1/output all/first none/second none/hold none/flips 0/at n
   > 1 Syntax at line 9|tdelay-cert 4/circuit 0 1/default 1 1/output all/first none/second none/hold none/flips 0/at 0
@@ -193,7 +205,7 @@ draft of it is none.
   > 3 Trailing at line 16|tdelay-cert 4/circuit 1 1/default 1 1/output all/first ./second ./hold ./flips 1/at 0/keep none/time 3/high 3/from 0/to 1/b e 3/b e 3/
   > 4 NumberTooLarge at line 15|tdelay-cert 4/circuit 1 1/default 1 1/output all/first ./second ./hold ./flips 1/at 0/keep none/time 3/high 3/from 0/to 1/b e 1000000000000000001
   > END
-  50 rows
+  62 rows
 
 A leaf that is missing, and one too many.
 

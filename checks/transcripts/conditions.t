@@ -109,6 +109,37 @@ A step `k` has a literal that a condition says, or two of a net that is equal be
   > END
   15 rows
 
+Where no pair keeps them, a certificate may claim that no pair is admitted. Each leaf has to say so of its cube then: it is `none`, or its
+last clause is empty. A leaf with a number doesn't say so, and a pair can't be claimed.
+
+  $ bash rows slow.v 'tdelay-cert 4/circuit 2 4/default 1 1/output all/first ../second ../hold ../flips 2/at 0 0/keep 7 .1/' <<'END'
+  > accepted none|time none/x/f 3/f 5/f 6/f 7/k 6/t 7 2/t 7 4/t 3 0/t 5 1/l 0 0 1 2 3 4/q none/
+  > accepted none|time none/s 3/x/f 3/f 5/f 6/f 7/k 6/t 7 2/t 7 4/t 3 0/t 5 1/l 0 0 1 2 3 4/q none/x/f 3/f 5/f 6/f 7/k 6/t 7 2/t 7 4/t 3 0/t 5 1/l 0 0 1 2 3 4/q none/
+  > refused 9 LeafNotEmpty line 22|time none/x/f 3/f 5/f 6/f 7/k 6/t 7 2/t 7 4/t 3 0/t 5 1/q none/
+  > refused 9 LeafNotEmpty line 24|time none/x/f 3/f 5/f 6/f 7/k 6/t 7 2/t 7 4/t 3 0/t 5 1/l 0 0 1 2 3 4/l 1 0 0 1 2 3 4/q none/
+  > refused 9 LeafNotEmpty line 13|time none/x/q none/
+  > refused 9 LeafNotEmpty line 23|time none/x/f 3/f 5/f 6/f 7/k 6/t 7 2/t 7 4/t 3 0/t 5 1/l 0 0 1 2 3 4/q 9/
+  > refused 10 BadStep line 22|time none/x/f 3/f 5/f 6/f 7/k 6/t 7 2/t 7 4/t 3 0/t 5 1/l 0 0 1 2 3/q none/
+  > refused 9 LeafNotEmpty line 12|time none/b e 8/
+  > refused 9 LeafNotEmpty line 12|time none/b e 0/
+  > refused 9 LeafNotEmpty line 12|time none/p 0/
+  > refused 9 LeafNotEmpty line 12|time none/none/
+  > refused 5 BadPosition line 12|time none/s 4/none/none/
+  > refused 9 LeafNotEmpty line 14|time none/s 3/none/b a 9/
+  > refused 8 PairNotAdmitted|time 3/high 3/from 11/to 10/x/f 3/f 5/f 6/f 7/k 6/t 7 2/t 7 4/t 3 0/t 5 1/l 0 0 1 2 3 4/q none/
+  > END
+  14 rows
+  $ bash rows slow.v 'tdelay-cert 4/circuit 2 4/default 1 1/output all/first ../second ../hold ../flips 2/at 0 0/keep ' <<'END'
+  > accepted none|3 .0 3 .1/time none/s 3/none/none/
+  > accepted none|3 .0 3 .1/time none/x/f 3/k 0/k 1/l 0 0 1/q none/
+  > refused 9 LeafNotEmpty line 12|3 .0 3 .1/time none/none/
+  > refused 9 LeafNotEmpty line 13|3 .0/time none/s 3/none/none/
+  > refused 10 BadStep line 15|3 .0/time none/x/f 3/k 1/k 0/l 0 0 1/q none/
+  > accepted 3|3 .0/time 3/high 3/from 11/to 10/s 3/b e 3/x/f 3/k 1/u 0/l 0 0 1/q none/
+  > refused 9 LeafNotEmpty line 21|3 .0/time 3/high 3/from 11/to 10/s 3/b e 3/x/f 3/k 1/u 0/q none/
+  > END
+  7 rows
+
 What is accepted is said with its conditions: b ends at 0, d keeps its level, and y stays at 0. Steps show that nothing changes y then.
 
   $ printf '%b' 'tdelay-cert 4\ncircuit 2 4\ndefault 1 1\noutput 0\nfirst ..\nsecond .0\nhold ..\nflips 2\nat 0 0\nkeep 3 .0 5 == 7 00\ntime 0\nhigh 0\nfrom 01\nto 10\nx\nf 3\nw 5 0 0\ni 5\nf 5\ni 3\ni 4\nw 7 0 0\nt 4 9 11\nu 1\nt 7 0\nl 1 7 1 2\nk 5 6\nl 1 5 3 4\ng 12 3\ng 2 10 0\ng 2 8 0\nl 1 2 1 5 7 8 0\nl 1 12 9 6\ne 7 0 1 1 12 10\ne 7 1 1 1 12 10\nq 0\n' > c; tdelay check slow.v c --output y
@@ -119,3 +150,10 @@ What is accepted is said with its conditions: b ends at 0, d keeps its level, an
   $ sed -i 's/^keep .*/keep 3 .0 7 00/' c; tdelay check slow.v c --output y
   refused 10 BadStep line 27
   [4]
+
+That no pair is admitted, too, and ends with status 0.
+
+  $ printf '%b' 'tdelay-cert 4\ncircuit 2 4\ndefault 1 1\noutput all\nfirst ..\nsecond .1\nhold ..\nflips 2\nat 0 0\nkeep 3 .0\ntime none\nnone\n' > c; tdelay check slow.v c
+  accepted none
+  second .1
+  keep 3 .0

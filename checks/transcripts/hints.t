@@ -384,6 +384,7 @@ Files that can't be read or written.
   from 0
   to 1
   nodes 1
+  nowhere/c: there is no such folder; the search goes on
   tdelay: cannot write nowhere/c
   nowhere/c: there is no such folder
     help: give another name, or make the folder first
@@ -395,6 +396,7 @@ Files that can't be read or written.
   from 0
   to 1
   nodes 1
+  .: it is a folder; the search goes on
   tdelay: cannot write .
   .: it is a folder
     help: give another name, or make the folder first
@@ -451,16 +453,17 @@ A search that is cut short.
     help: a greater --budget, at most 10000000
     help: or fewer pairs: --first, --second, --hold, --flips; or `tdelay parts`
 
-What came from standard input can't be read again.
+What came from standard input or a pipe is explained too.
 
   $ tdelay info - --hints < two.v
   tdelay: netlist fault 11 TwoDrivers at line 5
-  what came from standard input or a pipe can't be read again to explain more
-    help: save it in a file, and give the file's name
+  stdin:5: a second gate output drives net y; the first is at line 4
+      buf #1 h(y,a);
+    help: give the two outputs two names: there are no wired nets
   [1]
-  $ tdelay info <(cat two.v) --hints 2>&1 | tail -n +2
-  what came from standard input or a pipe can't be read again to explain more
-    help: save it in a file, and give the file's name
+  $ tdelay info <(cat two.v) --hints 2>&1 | tail -n +3
+      buf #1 h(y,a);
+    help: give the two outputs two names: there are no wired nets
   $ tdelay check two.v - --hints < two.v
   tdelay: netlist fault 11 TwoDrivers at line 5
   two.v:5: a second gate output drives net y; the first is at line 4
@@ -547,7 +550,7 @@ Each verdict but for `Accepted`.
   [4]
   $ bash hint.sh hidden.v 'tdelay-cert 2/circuit 2 4/first ../second ../hold ../flips 1/time 5/from 01/to 11/s 0/s 1/none/s 2/s 3/b a 0/none/b a 5/b a 5/'
   refused 9 LeafNotEmpty line 12
-  c:12: a leaf claims that no admitted pair lies in its cube, but one may
+  c:12: a leaf has to show that no admitted pair lies in its cube, and doesn't
     help: the certificate is wrong: search again
   [4]
 

@@ -95,3 +95,38 @@ pairs are admitted.
   $ tdelay join two.v low empty
   tdelay: empty: a leaf without a pair
   [4]
+
+Parts that claim that no pair is admitted: what is joined claims what another part does, and that no pair is admitted where all do.
+
+  $ cat > none.sh <<'END'
+  > # The text of a certificate about the pairs in which y ends so: the pins of the second vector, the form, and the lines of claim and tree.
+  > printf '%s\n' 'tdelay-cert 4' 'circuit 2 1' 'default 1 1' 'output all' 'first ..' "second $1" 'hold ..' 'flips 2' 'at 0 0' "keep 4 $2" "${@:3}"
+  > END
+  $ bash none.sh 0. .1 'time none' none > never
+  > bash none.sh 1. .1 'time 2' 'high 2' 'from 00' 'to 11' 'b e 2' > rises
+  $ tdelay join two.v never rises --check --cert whole
+  unit 1 ns
+  defaulted 0
+  exact 2
+  from 00
+  to 11
+  nodes 3
+  $ tdelay check two.v whole
+  accepted 2
+  keep 4 .1
+  $ bash none.sh 01 .1 'time none' x 'f 2' 'f 4' 'k 2' 't 3 0' 'u 1' 'l 0 0 1 2' 'q none' > steps
+  > bash none.sh 00 .1 'time none' none > least
+  $ tdelay join two.v steps least --check --cert whole
+  unit 1 ns
+  defaulted 0
+  no admitted pair
+  nodes 3
+  $ tdelay check two.v whole
+  accepted none
+  second 0.
+  keep 4 .1
+  $ sed -n '/^time/,$p' whole | paste -sd,
+  time none,s 3,none,x,f 2,f 4,k 2,t 3 0,u 1,l 0 0 1 2,q none
+  $ sed 's/^l .*/l 0 0 1/' steps > hintless; tdelay join two.v hintless least --check
+  tdelay: hintless: refused 10 BadStep line 18
+  [4]

@@ -374,17 +374,33 @@ Commands that don't take them refuse them as any option.
 A netlist from a stream is read once.
 
   $ tdelay worst - --pin a=1 < bus.v
-  tdelay: inputs by name need a netlist in a file
-  [2]
+  unit 1 ns
+  defaulted 0
+  exact 3
+  from 000010
+  to 111110
+  nodes 21
   $ tdelay worst stdin --at a=1 < bus.v
-  tdelay: inputs by name need a netlist in a file
-  [2]
+  unit 1 ns
+  defaulted 0
+  exact 4
+  from 000000
+  to 111110
+  nodes 25
   $ tdelay worst /dev/stdin --pin a=1 < <(cat bus.v)
-  tdelay: inputs by name need a netlist in a file
-  [2]
+  unit 1 ns
+  defaulted 0
+  exact 3
+  from 000010
+  to 111110
+  nodes 21
   $ tdelay worst <(cat bus.v) --hold-input a
-  tdelay: inputs by name need a netlist in a file
-  [2]
+  unit 1 ns
+  defaulted 0
+  exact 3
+  from 000010
+  to 111110
+  nodes 27
   $ tdelay worst /dev/stdin --pin a=1 < bus.v | tail -4
   exact 3
   from 000010
@@ -427,11 +443,6 @@ Hints say which inputs there are, and what a word has to be.
   tdelay: --at by name and by place
   --at has a number for each input by place, or NAME=T for one by name
     help: give all times in one of the two forms
-  [2]
-  $ tdelay worst - --pin a=1 --hints < bus.v
-  tdelay: inputs by name need a netlist in a file
-  the netlist is read twice, first for the names of its inputs
-    help: save it in a file, and give the file's name
   [2]
   $ tdelay worst bus.v --pin a=1 --first 0 --hints
   tdelay: bad vector first

@@ -348,7 +348,10 @@ The texts of such leaves: one letter, then numbers.
   > 1 Syntax at line 16|x/q 3 3/
   > 1 Syntax at line 16|x/q 03/
   > 1 Syntax at line 16|x/q x/
-  > 1 Syntax at line 16|x/q none/
+  > refused 9 LeafNotEmpty line 16|x/q none/
+  > refused 9 LeafNotEmpty line 19|x/f 3/f 2/t 0 2/q none/
+  > 1 Syntax at line 16|x/q none 3/
+  > 1 Syntax at line 16|x/q nonE/
   > 1 Syntax at line 16|x/q  3/
   > 1 Syntax at line 16|x/x/q 3/
   > 1 Syntax at line 16|x/h 1/q 3/
@@ -374,9 +377,10 @@ The texts of such leaves: one letter, then numbers.
   > 2 UnexpectedEnd at line 17|x/f 2/
   > 2 UnexpectedEnd at line 16|x/q
   > 2 UnexpectedEnd at line 16|x/q 3
+  > 2 UnexpectedEnd at line 16|x/q no
   > 2 UnexpectedEnd at line 18|s 0/x/q 3/
   > END
-  46 rows
+  50 rows
 
 Leaves by spans stand among others, in version 4 alone.
 

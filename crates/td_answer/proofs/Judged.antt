@@ -1,12 +1,15 @@
 -- From the verdict on a certificate to what a check says.
 use Rattle.std.proofs.Common.{◌≡◌, ◌∙◌, ◌≤◌, ℕ, List, Bool, true, false, refl, sym, subst, arith, inl, inr}
-use Rattle.std.specs.Prelude.{◌==◌, if◌then◌else◌}
+use Rattle.std.specs.Prelude.{◌==◌, if◌then◌else◌, Option, Some, None}
 use Rattle.std.proofs.lemmas.Bool.{eqb-true, eq-eqb, cases_eq}
 use Rattle.td_reading.specs.declared.reading.Reading.{Reading}
 use Rattle.td_circuit.specs.Settings.{Setting}
 use Rattle.td_certificate.specs.declared.certificate.Certificate.{Certificate}
+use Rattle.td_certificate.specs.declared.certificate.Claim.{Claim}
 use Rattle.td_certificate.specs.Questions.{asking_of}
-use Rattle.td_certificate.specs.Accepts.{setting_of, IsClaim}
+use Rattle.td_refutation.specs.Asking.{Asking}
+use Rattle.td_certificate.specs.Accepts.{setting_of, IsClaimed}
+use Rattle.td_certificate.specs.Accepts as accepts
 use Rattle.td_certificate.specs.Spelling.{Spells}
 use Rattle.td_checker.specs.declared.verdict.Verdict.{Verdict}
 use Rattle.td_checker.specs.declared.verdict.Verdict.TheVariants as verdict
@@ -14,18 +17,18 @@ use Rattle.td_checker.specs.Checks.{HaveVerdict, TellsTruth}
 use Rattle.td_lines.specs.declared.line.Line.{Line}
 use Rattle.td_lines.specs.declared.line.Line.TheVariants as line
 use Rattle.td_answer.specs.declared.status.Status.{Status}
-use Rattle.td_answer.specs.Claims.{accepted_line}
+use Rattle.td_answer.specs.Claims.{accepted_line, claimed_line}
 use Rattle.td_answer.specs.Verdicts.{AreVerdictLines, AreRefusedLines, ending_by, IsTrueClaim, IsRejected, IsTrueVerdict}
 
--- the first line of a claim that is true is true
-claim_true : (setting : Setting) (c : Certificate) → IsClaim setting c → IsTrueClaim setting (asking_of c.question) (accepted_line c.time c.high)
-claim_true setting c is = go (c.time == c.high) refl
+-- the line of two moments that are true is true
+moments_true : (setting : Setting) (asking : Asking) (c : Claim) → accepts.IsTrueClaim setting asking c → IsTrueClaim setting asking (accepted_line c.time c.high)
+moments_true setting asking c is = go (c.time == c.high) refl
   where
     ordered : c.time ≤ c.high
     ordered = is.bounded c.pair c.time is.admitted is.reached
 
     go : (same : Bool) → (c.time == c.high) ≡ same
-        → IsTrueClaim setting (asking_of c.question) (if same then line.Accepted c.time else line.AcceptedBetween c.time c.high)
+        → IsTrueClaim setting asking (if same then line.Accepted c.time else line.AcceptedBetween c.time c.high)
     go true equal = (
       (c.pair, is.admitted, is.reached),
       λ pair delay admitted delays. omega (arith, is.bounded pair delay admitted delays, eqb-true c.time c.high equal),
@@ -39,6 +42,11 @@ claim_true setting c is = go (c.time == c.high) refl
       is.bounded,
     )
 
+-- the first line of a claim that is true is true
+claim_true : (setting : Setting) (asking : Asking) (claim : Option Claim) → IsClaimed setting asking claim → IsTrueClaim setting asking (claimed_line claim)
+claim_true setting asking None is = is
+claim_true setting asking (Some claim) is = moments_true setting asking claim is
+
 module _ (text : List ℕ) (reading : Reading) (spelled : List ℕ) (certificate : Certificate) (report : List Line) where
   rejected : (found : Verdict) → HaveVerdict text reading spelled found → AreRefusedLines found report → IsRejected text reading spelled report
   rejected found has lines = record { found = found; has = has; is = lines }
@@ -51,8 +59,8 @@ module _ (text : List ℕ) (reading : Reading) (spelled : List ℕ) (certificate
     circuit = have.circuit;
     certificate = certificate;
     spells = spells;
-    claim = accepted_line certificate.time certificate.high;
-    is_true = claim_true (setting_of have.netlist certificate) certificate (truth refl have.netlist certificate have.circuit.reads spells);
+    claim = claimed_line certificate.claim;
+    is_true = claim_true (setting_of have.netlist certificate) (asking_of certificate.question) certificate.claim (truth refl have.netlist certificate have.circuit.reads spells);
     is = says;
   }
   by_verdict verdict.PairTime have spells truth says = rejected verdict.PairTime have says

@@ -175,6 +175,8 @@ module _ (text : List ℕ) (reading : Reading) (asked_by : Search) (circuit : Nu
     netlist = circuit.netlist;
     asked = subst (λ (a : Admitted). IsAsked text reading asked_by.question (setting circuit) a) (sym same_admit) asked;
     terms = terms_read text reading by read tree same is_output;
+    claim = record { time = time; high = time; pair = pair };
+    claims = refl;
     tells = subst (λ (lines : List Line). Contains lines (line.Exact time)) (sym printed) (2, omega arith, refl);
     closed = refl;
     accepted = is.accepted (terms_in by read tree) (no_condition by read tree);

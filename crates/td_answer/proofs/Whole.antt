@@ -1,6 +1,6 @@
 -- Parts that texts tell, and what they are joined into.
 use Rattle.std.proofs.Common.{◌≡◌, ◌∙◌, ◌≤◌, ℕ, Bool, true, List, [], length, take, refl, sym, subst, inl, inr, arith, append-nil}
-use Rattle.std.specs.Prelude.{Option, All}
+use Rattle.std.specs.Prelude.{Option, Some, None, All}
 use Rattle.std.specs.Borrow.{Bor}
 use Rattle.std.proofs.lemmas.List.Elements.{All-from_recursion}
 use Rattle.td_reading.specs.declared.reading.Reading.{Reading}
@@ -8,12 +8,14 @@ use Rattle.td_nets.specs.Netlist.{Netlist}
 use Rattle.td_nets.specs.WellFormed.{IsWellFormed}
 use Rattle.td_source.specs.Reads.{HasCircuit}
 use Rattle.td_source.proofs.Naming.{reads_one}
-use Rattle.td_circuit.specs.Settings.{AreMoments}
 use Rattle.td_domain.specs.declared.cubes.Trit.{Trit}
+use Rattle.td_circuit.specs.Settings.{Setting, AreMoments}
+use Rattle.td_refutation.specs.Asking.{Asking}
 use Rattle.td_certificate.specs.declared.certificate.Certificate.{Certificate}
+use Rattle.td_certificate.specs.declared.certificate.Claim.{Claim}
 use Rattle.td_certificate.specs.declared.fault.CertFault.{CertFault}
 use Rattle.td_certificate.specs.Questions.{asking_of}
-use Rattle.td_certificate.specs.Accepts.{Accepts, setting_of}
+use Rattle.td_certificate.specs.Accepts.{Accepts, setting_of, IsClaimed}
 use Rattle.td_certificate.specs.Faults.{IsFault}
 use Rattle.td_certificate.specs.Spelling.{HasSpelling, latest}
 use Rattle.td_certificate.proofs.Acceptance.{accepted_is_true}
@@ -21,16 +23,23 @@ use Rattle.td_certificate.proofs.Texts.{spells_once}
 use Rattle.td_checker.specs.declared.verdict.CheckFault.{CheckFault}
 use Rattle.td_checker.specs.declared.verdict.CheckFault.TheVariants as check
 use Rattle.td_checker.specs.Checks.{IsCheckFault}
-use Rattle.td_join.specs.Joining.{IsJoined}
+use Rattle.td_join.specs.Joining.{IsJoined, IsClosedClaim}
 use Rattle.td_join.specs.Faults.{IsJoinFault}
 use Rattle.td_join.specs.declared.fault.JoinFault.{JoinFault}
 use Rattle.td_answer.specs.declared.refusal.Refusal.{Refusal}
 use Rattle.td_request.specs.declared.request.Join.{Join}
 use Rattle.td_question.specs.Asking.{IsPinned}
-use Rattle.td_answer.specs.Joins.{TellsPart, TellsNoPart, AreParts, IsToJoin, IsUnjoinedFor, whole_pins}
+use Rattle.td_answer.specs.Joins.{TellsPart, TellsNoPart, AreParts, IsToJoin, IsUnjoinedFor, IsTrueWhole, whole_pins}
 use Rattle.td_answer.specs.Unjoined.{IsOfPart, IsOfUnjoined, unjudged}
-use Rattle.td_answer.specs.Verdicts.{IsWorstAsked}
 use Rattle.td_answer.proofs.Zips.{zip_second}
+
+-- a claim of one moment that is true
+closed_true : (setting : Setting) (asking : Asking) (claim : Option Claim) → IsClaimed setting asking claim → IsClosedClaim claim → IsTrueWhole setting asking claim
+closed_true setting asking None is closed = is
+closed_true setting asking (Some claim) is closed = (
+  (claim.pair, is.admitted, is.reached),
+  λ pair delay about delays. omega (arith, is.bounded pair delay about delays, closed),
+)
 
 -- ---- a part
 
@@ -79,18 +88,16 @@ module _ (text : List ℕ) (reading : Reading) (netlist : Netlist) (circuit : Ha
     within = All-from_recursion (λ moment. moment ≤ latest) whole.question.moments spelled.moments;
   }
 
-  -- where the parts are checked, its time is the worst delay
-  pub whole_worst : (checked : Bool) (names texts : List (List ℕ)) (parts : List Certificate) (pins : List Trit) (whole : Certificate) → IsWellFormed netlist
+  -- where the parts are checked, what it claims is true
+  pub whole_true : (checked : Bool) (names texts : List (List ℕ)) (parts : List Certificate) (pins : List Trit) (whole : Certificate) → IsWellFormed netlist
       → AreParts text reading netlist checked names texts parts → IsJoined parts pins whole → HasSpelling whole
       → ((any : Netlist) → All (Accepts any) parts → Accepts any whole) → checked ≡ true
-      → IsWorstAsked (setting_of netlist whole) (asking_of whole.question) whole.time
-  whole_worst checked names texts parts pins whole formed are joined spelled accepted check =
+      → IsTrueWhole (setting_of netlist whole) (asking_of whole.question) whole.claim
+  whole_true checked names texts parts pins whole formed are joined spelled accepted check =
       let each = parts_accepted names texts parts (subst (λ (b : Bool). AreParts text reading netlist b names texts parts) check are) in
       let is = accepted netlist each in
-      let claim = accepted_is_true netlist whole formed circuit.acyclic (fits whole spelled is) is in (
-        (whole.pair, claim.admitted, claim.reached),
-        λ pair delay about delays. omega (arith, claim.bounded pair delay about delays, joined.whole_closed),
-      )
+      closed_true (setting_of netlist whole) (asking_of whole.question) whole.claim
+      (accepted_is_true netlist whole formed circuit.acyclic (fits whole spelled is) is) joined.whole_closed
 
 -- what is to be joined
 pub to_join : (text : List ℕ) (reading : Reading) (asked : Join) (texts : List (List ℕ)) (netlist : Netlist) (parts : List Certificate) (given : Option (List Trit))

@@ -5,6 +5,7 @@ use Rattle.td_nets.specs.Netlist.{Netlist}
 use Rattle.td_reading.specs.declared.reading.Reading.{Reading}
 use Rattle.td_source.specs.Reads.{IsOutputOf}
 use Rattle.td_certificate.specs.declared.certificate.Certificate.{Certificate}
+use Rattle.td_certificate.specs.declared.certificate.Claim.{Claim}
 use Rattle.td_certificate.specs.Accepts.{Accepts, setting_of}
 use Rattle.td_certificate.specs.Questions.{Terms}
 use Rattle.td_certificate.specs.Spelling.{HasSpelling}
@@ -27,8 +28,10 @@ pub record IsShown (text : List ℕ) (reading : Reading) (question : Question) (
   pub netlist : Netlist
   pub asked : IsAsked text reading question (setting_of netlist certificate) certificate.question.admit
   pub terms : AreTermsOf text reading certificate.question.terms
-  pub tells : Contains report (line.Exact certificate.time)
-  pub closed : certificate.high ≡ certificate.time
+  pub claim : Claim
+  pub claims : certificate.claim ≡ Some claim
+  pub tells : Contains report (line.Exact claim.time)
+  pub closed : claim.high ≡ claim.time
   pub accepted : Accepts netlist certificate
   pub written : HasSpelling certificate
 

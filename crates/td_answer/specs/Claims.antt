@@ -2,6 +2,7 @@
 use Rattle.std.specs.Prelude.{ℕ, List, [], ◌∷◌, ◌==◌, map, if◌then◌else◌, Option, Some, None}
 use Rattle.std.specs.List.{flat_map}
 use Rattle.td_certificate.specs.declared.certificate.Certificate.{Certificate}
+use Rattle.td_certificate.specs.declared.certificate.Claim.{Claim}
 use Rattle.td_certificate.specs.declared.question.Version.{Version}
 use Rattle.td_certificate.specs.declared.question.Version.TheVariants.{Fourth}
 use Rattle.td_certificate.specs.Questions.{Question}
@@ -15,6 +16,11 @@ use Rattle.td_lines.specs.declared.line.Line.TheVariants as line
 -- changes an output
 abbrev pub accepted_line : ℕ → ℕ → Line
 accepted_line time high = if time == high then line.Accepted time else line.AcceptedBetween time high
+
+-- what is claimed, if a pair is, or that none is admitted
+abbrev pub claimed_line : Option Claim → Line
+claimed_line None = line.AcceptedNone
+claimed_line (Some claim) = accepted_line claim.time claim.high
 
 -- the number of the output that is asked about, where one is
 abbrev pub output_number : Option (List ℕ) → Option ℕ
@@ -43,4 +49,4 @@ question_lines Fourth question = flat_map (told_line question) (fields_of Fourth
 question_lines version question = map (field_line question) (fields_of version)
 
 abbrev pub claim_lines : Certificate → List Line
-claim_lines certificate = accepted_line certificate.time certificate.high ∷ question_lines (version_in certificate) certificate.question
+claim_lines certificate = claimed_line certificate.claim ∷ question_lines (version_in certificate) certificate.question

@@ -7,9 +7,12 @@ use Rattle.td_reading.specs.declared.reading.Reading.{Reading}
 use Rattle.td_source.specs.Reads.{HasCircuit}
 use Rattle.td_domain.specs.declared.cubes.Trit.{Trit}
 use Rattle.td_certificate.specs.declared.certificate.Certificate.{Certificate}
+use Rattle.td_certificate.specs.declared.certificate.Claim.{Claim}
 use Rattle.td_certificate.specs.declared.fault.CertFaultKind.TheVariants as certificate_kind
+use Rattle.td_circuit.specs.Settings.{Setting}
+use Rattle.td_refutation.specs.Asking.{Asking}
 use Rattle.td_certificate.specs.Questions.{asking_of}
-use Rattle.td_certificate.specs.Accepts.{Accepts, IsOfSize, setting_of}
+use Rattle.td_certificate.specs.Accepts.{Accepts, AsksNone, IsOfSize, setting_of}
 use Rattle.td_certificate.specs.Faults.{IsFault}
 use Rattle.td_certificate.specs.Spelling.{Spells, HasSpelling}
 use Rattle.td_checker.specs.declared.verdict.Verdict.TheVariants.{Accepted}
@@ -21,7 +24,7 @@ use Rattle.td_join.specs.Faults.{IsJoinFault, renamed}
 use Rattle.td_request.specs.declared.request.Join.{Join}
 use Rattle.td_question.specs.Asking.{IsPinned, IsFaultOf, pin_words}
 use Rattle.td_answer.specs.Heads.{head_lines}
-use Rattle.td_answer.specs.Lines.{exact_lines}
+use Rattle.td_answer.specs.Lines.{whole_lines}
 use Rattle.td_answer.specs.Verdicts.{IsWorstAsked}
 use Rattle.td_answer.specs.declared.outcome.Outcome.{Outcome}
 use Rattle.td_answer.specs.declared.refusal.Refusal.{Refusal}
@@ -92,10 +95,16 @@ pub record IsToJoin (text : List ℕ) (reading : Reading) (asked : Join) (texts 
 abbrev pub most_nodes : ℕ
 most_nodes = 10000000
 
+-- what a whole claims is true: its time is the worst delay of the pairs that it asks about, or there
+-- is no such pair
+abbrev pub IsTrueWhole : Setting → Asking → Option Claim → Type 0
+IsTrueWhole setting asking None = AsksNone setting.netlist asking
+IsTrueWhole setting asking (Some claim) = IsWorstAsked setting asking claim.time
+
 -- The parts are joined into one certificate, which has a text and not too many nodes, and the
--- report tells its time, its pair and the number of its nodes, as that of a search does. Where each
--- part is accepted of a netlist, so is the whole. Where the parts are checked, its time is the
--- worst delay of the pairs that it asks about.
+-- report tells its time and its pair, as that of a search does, or that no pair is admitted, and the
+-- number of its nodes. Where each part is accepted of a netlist, so is the whole. Where the parts
+-- are checked, what it claims is true.
 pub record IsJoinedTo (text : List ℕ) (reading : Reading) (asked : Join) (texts : List (List ℕ)) (outcome : Outcome) (whole : Certificate) : Type 0 where
   pub netlist : Netlist
   pub parts : List Certificate
@@ -105,8 +114,8 @@ pub record IsJoinedTo (text : List ℕ) (reading : Reading) (asked : Join) (text
   pub has_text : HasSpelling whole
   pub few : length whole.tree ≤ most_nodes
   pub accepted : (any : Netlist) → All (Accepts any) parts → Accepts any whole
-  pub worst : asked.check ≡ true → IsWorstAsked (setting_of netlist whole) (asking_of whole.question) whole.time
-  pub is : outcome.report ≡ head_lines netlist ++ exact_lines whole.time whole.pair (length whole.tree)
+  pub claims : asked.check ≡ true → IsTrueWhole (setting_of netlist whole) (asking_of whole.question) whole.claim
+  pub is : outcome.report ≡ head_lines netlist ++ whole_lines whole.claim (length whole.tree)
   pub ends : outcome.status ≡ Done
 
 -- the outcome's certificate is what they are joined to

@@ -1,6 +1,7 @@
 -- The lines of the answer of a search.
-use Rattle.std.specs.Prelude.{ℕ, List, [], ◌∷◌, length}
+use Rattle.std.specs.Prelude.{ℕ, List, [], ◌∷◌, length, Option, Some, None}
 use Rattle.td_domain.specs.Pairs.{Pair}
+use Rattle.td_certificate.specs.declared.certificate.Claim.{Claim}
 use Rattle.td_search.specs.declared.answers.Cause.{Cause}
 use Rattle.td_search.specs.declared.answers.Cause.TheVariants as cause
 use Rattle.td_search.specs.declared.answers.Answer.{Answer}
@@ -26,6 +27,11 @@ between_lines low high cause pair nodes =
 abbrev pub answer_lines : Answer → List Line
 answer_lines (answer.Exact time pair tree) = exact_lines time pair (length tree)
 answer_lines (answer.Between low high pair nodes cause) = between_lines low high cause pair nodes
+
+-- of a whole: what it claims, as that of a search, or that no pair is admitted
+abbrev pub whole_lines : Option Claim → ℕ → List Line
+whole_lines None nodes = line.NoPair ∷ line.Nodes nodes ∷ []
+whole_lines (Some claim) nodes = exact_lines claim.time claim.pair nodes
 
 -- the pair of an answer
 abbrev pub pair_in : Answer → Pair

@@ -10,7 +10,7 @@ use Rattle.td_reading.specs.declared.reading.Reading.{Reading}
 use Rattle.td_source.specs.Reads.{HasCircuit}
 use Rattle.td_certificate.specs.declared.certificate.Certificate.{Certificate}
 use Rattle.td_certificate.specs.Questions.{asking_of}
-use Rattle.td_certificate.specs.Accepts.{setting_of, IsBoundOf}
+use Rattle.td_certificate.specs.Accepts.{setting_of, AsksNone, IsBoundOf}
 use Rattle.td_certificate.specs.Spelling.{Spells, version_in}
 use Rattle.td_checker.specs.declared.verdict.Verdict.{Verdict}
 use Rattle.td_checker.specs.declared.verdict.Verdict.TheVariants as verdict
@@ -54,10 +54,11 @@ IsWorstAsked setting asking time = IsReached setting asking time × IsBoundOf se
 
 -- The line is `accepted T`, and T is the worst delay of the pairs that are asked about; or it is
 -- `accepted between T H`, some such pair has the delay T, and none changes an output after H, which
--- is later.
+-- is later; or it is `accepted none`, and there is no such pair.
 abbrev pub IsTrueClaim : Setting → Asking → Line → Type 0
 IsTrueClaim setting asking (line.Accepted time) = IsWorstAsked setting asking time
 IsTrueClaim setting asking (line.AcceptedBetween time high) = IsReached setting asking time × (time < high) × IsBoundOf setting asking high
+IsTrueClaim setting asking line.AcceptedNone = AsksNone setting.netlist asking
 IsTrueClaim setting asking other = ⊥
 
 -- The certificate is accepted: its text spells it, and of the pairs that it asks about, in the

@@ -6,12 +6,12 @@ ghost use Rattle.td_certificate.specs.Plain.{has_level};
 ghost use Rattle.td_certificate.specs.declared.question.Version.TheVariants as of_version;
 ghost use Rattle.td_certificate.specs.Spelling.{DefaultField, OutputField, FirstField, SecondField, HoldField, FlipsField, AtField, KeepField, fields_of};
 ghost use Rattle.td_lines.specs.declared.line.Line.TheVariants as line;
-ghost use Rattle.td_answer.specs.Claims.{accepted_line, output_number, field_line, told_line, question_lines, claim_lines};
+ghost use Rattle.td_answer.specs.Claims.{accepted_line, claimed_line, output_number, field_line, told_line, question_lines, claim_lines};
 
 use crate::conditions::conditions;
 use crate::pins::{marks, trits};
 use std::alloc::{AllocError, Global};
-use td_certificate::{Certificate, Question, Terms, Version};
+use td_certificate::{Certificate, Claim, Question, Terms, Version};
 use td_lines::{Label, Line, Moments, Report};
 
 /// The line of the time of an accepted certificate, and of its other moment where that is another
@@ -23,6 +23,16 @@ fn accepted_line(time: u64, high: u64) -> Line
         return Line::Accepted(time);
     }
     Line::AcceptedBetween { time, high }
+}
+
+/// The line of what an accepted certificate claims.
+fn claimed_line(claim: &Option<Claim>) -> Line
+    ensures { result ≡ claimed_line claim.now }
+{
+    match claim {
+        None => Line::AcceptedNone,
+        Some(claim) => accepted_line(claim.time, claim.high),
+    }
 }
 
 /// Whether a row of trits has a level.
@@ -225,12 +235,12 @@ fn push_question(
     }
 }
 
-/// The report of a certificate that is accepted: its time, and what it is about.
+/// The report of a certificate that is accepted: what it claims, and what it is about.
 pub(crate) fn accepted(alloc: Global, certificate: &Certificate) -> Result<Report, AllocError>
     ensures { IfOk result (λ report. report ≡ claim_lines certificate.now) }
 {
     let mut report = Report::new(alloc);
-    report.add(accepted_line(certificate.time, certificate.high))?;
+    report.add(claimed_line(&certificate.claim))?;
     push_question(
         alloc,
         &mut report,

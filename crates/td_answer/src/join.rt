@@ -1,13 +1,13 @@
 //! Certificates of the parts of a question, joined into one.
 
-ghost use Rattle.std.specs.Prelude.{◌≡◌, ◌≤◌, ◌++◌, [], All, get_or, length, map, IfOk, IfErr};
+ghost use Rattle.std.specs.Prelude.{◌≡◌, ◌≤◌, ◌++◌, [], All, get_or, length, map, None, IfOk, IfErr, OnOk};
 ghost use Rattle.td_nets.specs.Netlist.{Netlist};
 ghost use Rattle.td_certificate.specs.Accepts.{Accepts};
 ghost use Rattle.td_certificate.specs.Spelling.{HasSpelling};
 ghost use Rattle.td_join.specs.Joining.{IsJoined};
 ghost use Rattle.td_join.specs.Faults.{IsJoinFault, renamed};
 ghost use Rattle.td_answer.specs.Heads.{head_lines};
-ghost use Rattle.td_answer.specs.Lines.{exact_lines};
+ghost use Rattle.td_answer.specs.Lines.{whole_lines};
 ghost use Rattle.td_answer.specs.Joins.{texts_of, whole_pins, most_nodes, IsUnjoinedFor, IsTrueJoin, IsRefusedJoin};
 ghost use Rattle.td_answer.specs.Unjoined.{IsOfUnjoined};
 ghost use Rattle.td_answer.specs.Writing.{CanBeWritten};
@@ -19,11 +19,11 @@ use crate::outcome::Outcome;
 use crate::refusal::Refusal;
 use crate::status::Status;
 use std::alloc::{AllocError, Global};
-use td_certificate::Certificate;
+use td_certificate::{Certificate, Claim, Tree};
 use td_circuit::Circuit;
 use td_domain::Cube;
 use td_join::{JoinFault, join as join_all, join_in};
-use td_lines::Report;
+use td_lines::{Line, Report};
 use td_question::pins_of;
 use td_reading::Reading;
 use td_request::{Join, MOST_NODES};
@@ -123,12 +123,36 @@ fn whole_of<'n, 'w>(
     Ok(whole)
 }
 
-/// The report of a whole, as that of a search.
+/// Appends that no pair is admitted.
+fn push_none(report: &mut Report, tree: &Tree) -> Result<(), AllocError>
+    ensures { OnOk result (report.new ≡ report.old ++ whole_lines None (length tree.now)) }
+{
+    let nodes = tree.nodes();
+    report.add(Line::NoPair)?;
+    report.add(Line::Nodes(nodes.len() as u64))
+}
+
+/// Appends what a whole claims, and the number of its nodes.
+fn push_whole(
+    alloc: Global,
+    report: &mut Report,
+    claim: &Option<Claim>,
+    tree: &Tree,
+) -> Result<(), AllocError>
+    ensures { OnOk result (report.new ≡ report.old ++ whole_lines claim.now (length tree.now)) }
+{
+    match claim {
+        None => push_none(report, tree),
+        Some(claim) => push_exact(alloc, report, claim.time, &claim.pair, tree),
+    }
+}
+
+/// The report of a whole.
 fn report_of(alloc: Global, circuit: &Circuit, whole: &Certificate) -> Result<Report, AllocError>
-    ensures { IfOk result (λ report. report ≡ head_lines circuit.now.netlist ++ exact_lines whole.now.time whole.now.pair (length whole.now.tree)) }
+    ensures { IfOk result (λ report. report ≡ head_lines circuit.now.netlist ++ whole_lines whole.now.claim (length whole.now.tree)) }
 {
     let mut report = begun(alloc, circuit)?;
-    push_exact(alloc, &mut report, whole.time, &whole.pair, &whole.tree)?;
+    push_whole(alloc, &mut report, &whole.claim, &whole.tree)?;
     Ok(report)
 }
 

@@ -45,6 +45,14 @@ const OPEN: &[u8] =
     b"tdelay-cert 4\ncircuit 2 2\ndefault 1 1\noutput all\nfirst ..\nsecond ..\nhold ..\nflips 2\n\
 at 0 0\nkeep 2 01 3 ==\ntime 4\nhigh 5\nfrom 00\nto 10\nb a 5\n";
 
+/// Two parts of a question that admits no pair.
+const NEVER: [&[u8]; 2] = [
+    b"tdelay-cert 4\ncircuit 2 2\ndefault 1 1\noutput all\nfirst ..\nsecond 0.\nhold ..\nflips 2\n\
+at 0 0\nkeep 2 .0 2 01\ntime none\nnone\n",
+    b"tdelay-cert 4\ncircuit 2 2\ndefault 1 1\noutput all\nfirst ..\nsecond 1.\nhold ..\nflips 2\n\
+at 0 0\nkeep 2 .0 2 01\ntime none\nnone\n",
+];
+
 /// The output that changes last is, and the way there.
 const BESIDE: Shown = Shown {
     path: true,
@@ -290,6 +298,21 @@ fn joins(rt: HostRuntime) -> Result<(), Fail> {
     let overlap = b"tdelay: cannot join p0 and p0: a pair in both\n";
     let both = joined(alloc, &["p0", "p0"], false)?;
     assert!(rt; says(&rt, alloc, both, &same, Status::Rejected, overlap)?);
+    Ok(())
+}
+
+/// A certificate that no pair is admitted is accepted, and two of them are joined into one.
+#[test]
+fn claims_no_pair(rt: HostRuntime) -> Result<(), Fail> {
+    let alloc = rt.alloc();
+    let mut texts = Vec::new(alloc);
+    texts.push(Vec::from_slice(alloc, NEVER[0])?)?;
+    let never = b"accepted none\nsecond 0.\nkeep 2 .0 2 01\n";
+    assert!(rt; says(&rt, alloc, checked(), &texts, Status::Done, never)?);
+    texts.push(Vec::from_slice(alloc, NEVER[1])?)?;
+    let both = joined(alloc, &["p0", "p1"], true)?;
+    let report = b"unit 1 ns\ndefaulted 0\nno admitted pair\nnodes 3\n";
+    assert!(rt; says(&rt, alloc, both, &texts, Status::Done, report)?);
     Ok(())
 }
 

@@ -1,5 +1,5 @@
 -- The time of a certificate that is accepted is the worst delay.
-use Rattle.std.proofs.Common.{◌≡◌, ◌≢◌, ◌≤◌, ◌*◌, ℕ, zero, suc, Bool, true, false, List, [], ◌∷◌, length, map, set, Some, refl, sym, ap, subst, ◌∙◌, arith}
+use Rattle.std.proofs.Common.{◌≡◌, ◌≢◌, ◌≤◌, ◌*◌, ℕ, zero, suc, Bool, true, false, List, [], ◌∷◌, length, map, set, Option, Some, None, refl, sym, ap, subst, ◌∙◌, arith}
 use Rattle.std.specs.Prelude.{slice_get}
 use Rattle.std.specs.List.{AllByRecursion}
 use Rattle.std.proofs.lemmas.List.{length-map, length-set}
@@ -33,14 +33,16 @@ use Rattle.td_edges.specs.EdgeLaws as edges_laws
 use Rattle.td_certificate.specs.declared.tree.BoundedBy.{BoundedBy}
 use Rattle.td_certificate.specs.declared.tree.BoundedBy.TheVariants as by
 use Rattle.td_certificate.specs.declared.certificate.Certificate.{Certificate}
+use Rattle.td_certificate.specs.declared.certificate.Claim.{Claim}
 use Rattle.td_refutation.specs.Asking.{Asking, IsKept, IsAskedAbout}
 use Rattle.td_refutation.proofs.Asking.{nothing_kept}
 use Rattle.td_refutation.proofs.Keeping.{none_kept}
-use Rattle.td_refutation.proofs.Steps.{refuted_is_bounded}
+use Rattle.td_refutation.specs.Whole.{Step}
+use Rattle.td_refutation.proofs.Steps.{refuted_is_bounded, emptied_has_no_pair}
 use Rattle.td_certificate.specs.Questions.{asking_of}
-use Rattle.td_certificate.specs.Trees.{Tree, Split, Bound, Point, Empty, RefutedLeaf, lines_of}
-use Rattle.td_certificate.specs.Walks.{lines_from}
-use Rattle.td_certificate.specs.Accepts.{IsBoundBy, IsGood, HasDelay, setting_of, Accepts, IsClaim, AcceptedIsTrue, AcceptedIsWorst}
+use Rattle.td_certificate.specs.Trees.{Tree, Split, Bound, Point, Empty, RefutedLeaf, nodes_of, lines_of}
+use Rattle.td_certificate.specs.Walks.{Line, lines_from}
+use Rattle.td_certificate.specs.Accepts.{IsBoundBy, IsGood, Shows, IsBoundWithin, HasDelay, setting_of, high_of, Accepts, IsTrueClaim, ClaimsAdmitted, ClaimsDelay, IsClaimed, IsClaim, AcceptedIsTrue, AcceptedIsWorst}
 use Rattle.td_certificate.proofs.TreeLaws.{trees_are_counted}
 use Rattle.td_certificate.proofs.Walking.{lines_are_walked}
 
@@ -204,11 +206,20 @@ module _ (circuit : Numbered) (numbering : IsNumbering circuit) (fit : AreMoment
       same_delay (setting circuit) acyclic fit pair.first pair.second has.pair.first has.pair.second delay time
       (omega (arith, count, long.0)) (omega (arith, count, long.0, long.1)) same.0 same.1 is has.is
 
+  -- what steps show of the pair
+  below_shown : (cube : List Trit) (steps : List Step) → length cube ≡ 2 * length circuit.netlist.inputs → IsIn pair cube → (bound : Option ℕ)
+      → Shows (setting circuit) asking cube steps bound → IsBoundWithin (Some most) bound → delay ≤ most
+  below_shown cube steps count is_in None shows within =
+      absurd (emptied_has_no_pair (setting circuit) asking cube steps fit helds count shows pair about is_in)
+  below_shown cube steps count is_in (Some bound) shows within =
+      let under : delay ≤ bound = refuted_is_bounded (setting circuit) asking cube steps bound fit helds count shows pair delay about is_in is in
+      omega (arith, under, within)
+
   below : (tree : Tree) (cube : List Trit) → length cube ≡ 2 * length circuit.netlist.inputs → IsIn pair cube
-      → AllByRecursion (IsGood (setting circuit) asking most) (lines_of cube tree) → delay ≤ most
+      → AllByRecursion (IsGood (setting circuit) asking (Some most)) (lines_of cube tree) → delay ≤ most
   unfolding lines_of
   below (Split position zero_side one_side) cube count is_in good =
-      let sides = all_parts (IsGood (setting circuit) asking most) (lines_of (set cube position Zero) zero_side)
+      let sides = all_parts (IsGood (setting circuit) asking (Some most)) (lines_of (set cube position Zero) zero_side)
       (lines_of (set cube position One) one_side) good.1 in
       elim (side cube position pair.first pair.second good.0.splits is_in) [
         | low here ↦ below zero_side (set cube position Zero) (length-set cube position Zero ∙ count) here sides.0
@@ -222,33 +233,73 @@ module _ (circuit : Numbered) (numbering : IsNumbering circuit) (fit : AreMoment
   below Empty cube count is_in good =
       absurd (good.0.of_cube ((pair, about.admitted, is_in), none_kept circuit numbering asking.keep cube pair count is_in about.kept))
   below (RefutedLeaf refuted) cube count is_in good =
-      let under : delay ≤ refuted.bound = refuted_is_bounded (setting circuit) asking cube refuted.steps refuted.bound fit helds count good.0.of_cube pair delay about is_in is in
-      omega (arith, under, good.0.within)
+      below_shown cube refuted.steps count is_in refuted.bound good.0.of_cube good.0.within
+
+-- ---- no pair
+
+module _ (circuit : Numbered) (numbering : IsNumbering circuit) (fit : AreMoments circuit.netlist circuit.moments) (asking : Asking) (pair : Pair)
+    (about : IsAskedAbout circuit.netlist asking pair) (helds : length asking.admit.held ≡ length circuit.netlist.inputs) where
+  -- where each leaf says so, the pair doesn't lie in the cube
+  apart : (tree : Tree) (cube : List Trit) → length cube ≡ 2 * length circuit.netlist.inputs → IsIn pair cube
+      → AllByRecursion (IsGood (setting circuit) asking None) (lines_of cube tree) → ⊥
+  unfolding lines_of
+  apart (Split position zero_side one_side) cube count is_in good =
+      let sides = all_parts (IsGood (setting circuit) asking None) (lines_of (set cube position Zero) zero_side)
+      (lines_of (set cube position One) one_side) good.1 in
+      elim (side cube position pair.first pair.second good.0.splits is_in) [
+        | low here ↦ apart zero_side (set cube position Zero) (length-set cube position Zero ∙ count) here sides.0
+        | high here ↦ apart one_side (set cube position One) (length-set cube position One ∙ count) here sides.1
+      ]
+  apart (Bound domain bound) cube count is_in good = good.0.enough
+  apart (Point time) cube count is_in good = good.0.enough
+  apart Empty cube count is_in good =
+      good.0.of_cube ((pair, about.admitted, is_in), none_kept circuit numbering asking.keep cube pair count is_in about.kept)
+  apart (RefutedLeaf refuted) cube count is_in good =
+      emptied_has_no_pair (setting circuit) asking cube refuted.steps fit helds count
+      (subst (Shows (setting circuit) asking cube refuted.steps) good.0.enough good.0.of_cube) pair about is_in
 
 -- ---- all pairs
 
 abbrev pub at_moments : Netlist → List ℕ → Setting
 at_moments netlist moments = record { netlist = netlist; moments = moments }
 
-by_number : (circuit : Numbered) → IsNumbering circuit → AreMoments circuit.netlist circuit.moments → IsAcyclic circuit.netlist → (c : Certificate)
-    → c.question.moments ≡ circuit.moments → Accepts circuit.netlist c → IsClaim (setting circuit) c
-by_number circuit numbering fit acyclic c moments accepts =
-    let asking : Asking = asking_of c.question in
-    let given : setting_of circuit.netlist c ≡ setting circuit = ap (λ ms. at_moments circuit.netlist ms) moments in
-    let reached : IsDelayOfBits (setting circuit) c.pair.first c.pair.second c.time =
-    subst (λ s. IsDelayOfBits s c.pair.first c.pair.second c.time) given accepts.reached in
-    let long = cube_fits asking.admit.pins c.pair.first c.pair.second accepts.admitted.admitted.pinned in
-    let fits = vector_fits (setting circuit) c.pair.first c.pair.second c.time reached in
-    let made = trees_are_counted.has_tree c.tree accepts.tree in
-    let good : AllByRecursion (IsGood (setting circuit) asking c.high) (lines_of asking.admit.pins made.0) =
-    subst (AllByRecursion (IsGood (setting circuit) asking c.high)) (ap (lines_from (asking.admit.pins ∷ [])) (sym made.1) ∙ lines_are_walked made.0 asking.admit.pins)
-    (subst (λ s. AllByRecursion (IsGood s asking c.high) (lines_from (asking.admit.pins ∷ []) c.tree)) given accepts.good) in
-    record {
-      admitted = accepts.admitted;
-      reached = reached;
-      bounded = λ pair delay about is.
-          below circuit numbering fit acyclic asking c.high pair about delay is (sym accepts.size.inputs) made.0 asking.admit.pins (omega (arith, long.0, fits)) about.admitted.pinned good;
-    }
+module _ (circuit : Numbered) (numbering : IsNumbering circuit) (fit : AreMoments circuit.netlist circuit.moments) (acyclic : IsAcyclic circuit.netlist)
+    (c : Certificate) (moments : c.question.moments ≡ circuit.moments) (accepts : Accepts circuit.netlist c) where
+  abbrev asking : Asking
+  asking = asking_of c.question
+
+  given : setting_of circuit.netlist c ≡ setting circuit
+  given = ap (λ ms. at_moments circuit.netlist ms) moments
+
+  abbrev AreGood : Option ℕ → List Line → Type 0
+  AreGood most lines = AllByRecursion (IsGood (setting circuit) asking most) lines
+
+  made : (tree : Tree) × (nodes_of tree ≡ c.tree)
+  made = trees_are_counted.has_tree c.tree accepts.tree
+
+  good : AreGood (high_of c.claim) (lines_of asking.admit.pins made.0)
+  good =
+      subst (AreGood (high_of c.claim)) (ap (lines_from (asking.admit.pins ∷ [])) (sym made.1) ∙ lines_are_walked made.0 asking.admit.pins)
+      (subst (λ s. AllByRecursion (IsGood s asking (high_of c.claim)) (lines_from (asking.admit.pins ∷ []) c.tree)) given accepts.good)
+
+  whole : length asking.admit.pins ≡ 2 * length circuit.netlist.inputs
+  whole = omega (arith, accepts.size.pins, accepts.size.inputs)
+
+  by_claim : (claim : Option Claim) → ClaimsAdmitted circuit.netlist asking claim → ClaimsDelay (setting circuit) claim
+      → AreGood (high_of claim) (lines_of asking.admit.pins made.0) → IsClaimed (setting circuit) asking claim
+  by_claim None admitted is lines = λ pair about.
+      apart circuit numbering fit asking pair about (sym accepts.size.inputs) made.0 asking.admit.pins whole about.admitted.pinned lines
+  by_claim (Some claim) admitted is lines =
+      record {
+        admitted = admitted;
+        reached = is;
+        bounded = λ pair delay about reaches.
+            below circuit numbering fit acyclic asking claim.high pair about delay reaches (sym accepts.size.inputs) made.0 asking.admit.pins whole
+            about.admitted.pinned lines;
+      }
+
+  by_number : IsClaim (setting circuit) c
+  by_number = by_claim c.claim accepts.admitted (subst (λ s. ClaimsDelay s c.claim) given accepts.reached) good
 
 pub accepted_is_true : AcceptedIsTrue
 accepted_is_true netlist c well_formed acyclic fit accepts =
@@ -262,14 +313,15 @@ accepted_is_true netlist c well_formed acyclic fit accepts =
     (sym moments_are) (subst (λ (n : Netlist). Accepts n c) (sym net_is) accepts))
 
 pub accepted_is_worst : AcceptedIsWorst
-accepted_is_worst netlist c well_formed acyclic fit accepts none same =
-    let claim = accepted_is_true netlist c well_formed acyclic fit accepts in
+accepted_is_worst netlist c claim well_formed acyclic fit accepts none is same =
+    let holds : IsTrueClaim (setting_of netlist c) (asking_of c.question) claim =
+    subst (IsClaimed (setting_of netlist c) (asking_of c.question)) is (accepted_is_true netlist c well_formed acyclic fit accepts) in
     record {
-      pair = c.pair;
-      admitted = claim.admitted.admitted;
-      reached = claim.reached;
+      pair = claim.pair;
+      admitted = holds.admitted.admitted;
+      reached = holds.reached;
       greatest = λ pair delay admitted is.
           let about : IsAskedAbout netlist (asking_of c.question) pair =
           record { admitted = admitted; kept = subst (λ keep. IsKept netlist keep pair) (sym none) (nothing_kept netlist pair) } in
-          subst (λ (n : ℕ). delay ≤ n) same (claim.bounded pair delay about is);
+          subst (λ (n : ℕ). delay ≤ n) same (holds.bounded pair delay about is);
     }

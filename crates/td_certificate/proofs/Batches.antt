@@ -11,15 +11,17 @@ use Rattle.td_text.proofs.Outputs.{Sent-then, Sent-failed, SentTo-begins, SentTo
 use Rattle.td_refutation.specs.declared.conditions.NamedCondition.{NamedCondition}
 use Rattle.td_certificate.specs.declared.fault.WriteFault.{WriteFault}
 use Rattle.td_certificate.specs.declared.fault.WriteFault.TheVariants as stopping
-use Rattle.td_certificate.specs.Steps.{Refuted, steps_text, refuted_line}
+use Rattle.td_certificate.specs.Steps.{Refuted, or_none, steps_text, refuted_line}
 use Rattle.td_certificate.specs.Sending.{StopsIn}
 use Rattle.td_certificate.specs.declared.tree.Node.{Node}
 use Rattle.td_certificate.specs.Text.{row, bits, node_line, trit, first_trits, second_trits, numbers, condition, behind_condition, conditions}
-use Rattle.td_certificate.proofs.CertificateCode.{high_text, high_lines_text, head_text}
+use Rattle.td_certificate.proofs.CertificateCode.{high_text, high_lines_text, timed_lines_text, claim_text, claim_lines_text, head_text}
 use Rattle.std.proofs.lemmas.Fmt.{decimal_digit}
 use Rattle.td_certificate.specs.Questions.{Terms}
 use Rattle.td_certificate.specs.declared.certificate.Certificate.{Certificate}
-use Rattle.td_certificate.specs.Spelling.{inputs, version_in, question_text, version_line, high_lines, head_lines, default_line, output_line, plain_terms, terms_or_plain, ended, text_of, spelling}
+use Rattle.td_certificate.specs.declared.certificate.Claim.{Claim}
+use Rattle.td_certificate.specs.declared.question.Version.{Version}
+use Rattle.td_certificate.specs.Spelling.{inputs, version_in, question_text, version_line, high_lines, claim_lines, head_lines, default_line, output_line, plain_terms, terms_or_plain, ended, text_of, spelling}
 
 pub up_to : Certificate → ℕ → List ℕ
 up_to c count = text_of (head_lines c) ++ text_of (map node_line (take count c.tree))
@@ -102,10 +104,10 @@ group b r s q n = simp append_assoc
 
 -- the line of its bound
 abbrev pub bound_line : Refuted → List ℕ
-bound_line refuted = ended (codes "q " ++ decimal refuted.bound)
+bound_line refuted = ended (codes "q " ++ or_none refuted.bound)
 
 grouped : (batch : List ℕ) (refuted : Refuted) → batch ++ ended (refuted_line refuted) ≡ (batch ++ codes "x\n") ++ (steps_text refuted.steps ++ bound_line refuted)
-grouped batch refuted = group batch (codes "x\n") (steps_text refuted.steps) (codes "q " ++ decimal refuted.bound) (10 ∷ [])
+grouped batch refuted = group batch (codes "x\n") (steps_text refuted.steps) (codes "q " ++ or_none refuted.bound) (10 ∷ [])
 
 -- the writer failed in the lines before the steps
 pub refuted_failed : (a b : Output) (batch : List ℕ) (refuted : Refuted) → Failed a b (batch ++ codes "x\n") → Failed a b (batch ++ ended (refuted_line refuted))
@@ -261,21 +263,36 @@ listed_pushed word (m ∷ ms) i old text new some le before pushed =
 
 -- ---- the head
 
-made : (ve ci i sp g q ti t h fr f so s nl : List ℕ)
-    → ((((((((ve ++ (nl ++ (ci ++ (i ++ (sp ++ (g ++ nl)))))) ++ q) ++ (ti ++ (t ++ nl))) ++ h) ++ fr) ++ f) ++ (nl ++ so)) ++ s) ++ nl
-    ≡ (ve ++ nl) ++ (((((ci ++ i) ++ sp) ++ g) ++ nl) ++ (q ++ (((ti ++ t) ++ nl) ++ (h ++ (((fr ++ f) ++ nl) ++ ((so ++ s) ++ nl))))))
-made ve ci i sp g q ti t h fr f so s nl = simp append_assoc
+made_claim : (old ti t h fr f so s nl : List ℕ)
+    → ((((((old ++ (ti ++ (t ++ nl))) ++ h) ++ fr) ++ f) ++ (nl ++ so)) ++ s) ++ nl
+    ≡ old ++ (((ti ++ t) ++ nl) ++ (h ++ (((fr ++ f) ++ nl) ++ ((so ++ s) ++ nl))))
+made_claim old ti t h fr f so s nl = simp append_assoc
 
-pub head_made : (c : Certificate) (t0 t1 t2 t3 t4 t5 t6 t7 t8 : List ℕ)
+pub claim_made : (v : Version) (claim : Claim) (old t2 t3 t4 t5 t6 t7 t8 : List ℕ)
+    → t2 ≡ old ++ (codes "time " ++ (decimal claim.time ++ codes "\n"))
+    → t3 ≡ t2 ++ text_of (high_lines v claim.high) → t4 ≡ t3 ++ codes "from "
+    → t5 ≡ t4 ++ bits claim.pair.first → t6 ≡ t5 ++ codes "\nto " → t7 ≡ t6 ++ bits claim.pair.second → t8 ≡ t7 ++ codes "\n"
+    → t8 ≡ old ++ text_of (claim_lines v (Some claim))
+claim_made v claim old t2 t3 t4 t5 t6 t7 t8 e2 e3 e4 e5 e6 e7 e8 =
+    e8 ∙ ap (λ (t : List ℕ). t ++ codes "\n") (e7 ∙ ap (λ (t : List ℕ). t ++ bits claim.pair.second) (e6 ∙ ap (λ (t : List ℕ). t ++ codes "\nto ") (e5 ∙ ap (λ (t : List ℕ). t ++ bits claim.pair.first)
+    (e4 ∙ ap (λ (t : List ℕ). t ++ codes "from ") (e3 ∙ ap (λ (t : List ℕ). t2 ++ t) (high_lines_text v claim.high) ∙ ap (λ (t : List ℕ). t ++ high_text v claim.high) e2)))))
+    ∙ made_claim old (codes "time ") (decimal claim.time) (high_text v claim.high) (codes "from ") (bits claim.pair.first) (codes "to ") (bits claim.pair.second) (10 ∷ [])
+    ∙ ap (λ (t : List ℕ). old ++ t) (sym (timed_lines_text v claim))
+
+pub none_claimed : (v : Version) (old new : List ℕ) → new ≡ old ++ codes "time none\n" → new ≡ old ++ text_of (claim_lines v None)
+none_claimed v old new e = e ∙ ap (λ (t : List ℕ). old ++ t) (sym (flat_map-cons ended (codes "time none") [] ∙ append-nil (ended (codes "time none"))))
+
+made : (ve ci i sp g q cl nl : List ℕ)
+    → ((ve ++ (nl ++ (ci ++ (i ++ (sp ++ (g ++ nl)))))) ++ q) ++ cl ≡ (ve ++ nl) ++ (((((ci ++ i) ++ sp) ++ g) ++ nl) ++ (q ++ cl))
+made ve ci i sp g q cl nl = simp append_assoc
+
+pub head_made : (c : Certificate) (t0 t1 t2 : List ℕ)
     → t0 ≡ version_line (version_in c) ++ (codes "\n" ++ (codes "circuit " ++ (decimal (inputs c) ++ (codes " " ++ (decimal c.gates ++ codes "\n")))))
-    → t1 ≡ t0 ++ question_text (version_in c) c.question → t2 ≡ t1 ++ (codes "time " ++ (decimal c.time ++ codes "\n"))
-    → t3 ≡ t2 ++ text_of (high_lines (version_in c) c.high) → t4 ≡ t3 ++ codes "from "
-    → t5 ≡ t4 ++ bits c.pair.first → t6 ≡ t5 ++ codes "\nto " → t7 ≡ t6 ++ bits c.pair.second → t8 ≡ t7 ++ codes "\n" → t8 ≡ text_of (head_lines c)
-head_made c t0 t1 t2 t3 t4 t5 t6 t7 t8 e0 e1 e2 e3 e4 e5 e6 e7 e8 =
-    e8 ∙ ap (λ (t : List ℕ). t ++ codes "\n") (e7 ∙ ap (λ (t : List ℕ). t ++ bits c.pair.second) (e6 ∙ ap (λ (t : List ℕ). t ++ codes "\nto ") (e5 ∙ ap (λ (t : List ℕ). t ++ bits c.pair.first)
-    (e4 ∙ ap (λ (t : List ℕ). t ++ codes "from ") (e3 ∙ ap (λ (t : List ℕ). t2 ++ t) (high_lines_text (version_in c) c.high) ∙ ap (λ (t : List ℕ). t ++ high_text (version_in c) c.high)
-    (e2 ∙ ap (λ (t : List ℕ). t ++ (codes "time " ++ (decimal c.time ++ codes "\n"))) (e1 ∙ ap (λ (t : List ℕ). t ++ question_text (version_in c) c.question) e0)))))))
-    ∙ made (version_line (version_in c)) (codes "circuit ") (decimal (inputs c)) (codes " ") (decimal c.gates) (question_text (version_in c) c.question) (codes "time ") (decimal c.time) (high_text (version_in c) c.high) (codes "from ") (bits c.pair.first) (codes "to ") (bits c.pair.second) (10 ∷ [])
+    → t1 ≡ t0 ++ question_text (version_in c) c.question → t2 ≡ t1 ++ text_of (claim_lines (version_in c) c.claim) → t2 ≡ text_of (head_lines c)
+head_made c t0 t1 t2 e0 e1 e2 =
+    e2 ∙ ap (λ (t : List ℕ). t1 ++ t) (claim_lines_text (version_in c) c.claim)
+    ∙ ap (λ (t : List ℕ). t ++ claim_text (version_in c) c.claim) (e1 ∙ ap (λ (t : List ℕ). t ++ question_text (version_in c) c.question) e0)
+    ∙ made (version_line (version_in c)) (codes "circuit ") (decimal (inputs c)) (codes " ") (decimal c.gates) (question_text (version_in c) c.question) (claim_text (version_in c) c.claim) (10 ∷ [])
     ∙ sym (head_text c)
 
 pub head_begins : (a : Output) (c : Certificate) (batch : List ℕ) → batch ≡ text_of (head_lines c) → SentTo a a (up_to c 0) batch

@@ -1,5 +1,5 @@
 -- Lengths of texts.
-use Rattle.std.proofs.Common.{◌≡◌, ℕ, zero, suc, ◌+◌, ◌*◌, ◌<◌, ◌≤◌, ◌^◌, Bool, List, [], ◌∷◌, ◌++◌, length, length-append, Option, Some, None, refl, ap, subst, arith}
+use Rattle.std.proofs.Common.{◌≡◌, ℕ, zero, suc, ◌+◌, ◌*◌, ◌<◌, ◌≤◌, ◌^◌, Bool, List, [], ◌∷◌, ◌++◌, length, length-append, Option, Some, None, refl, sym, ap, subst, arith}
 use Rattle.std.specs.Prelude.{codes, decimal, map}
 use Rattle.std.specs.List.{AllByRecursion}
 use Rattle.std.proofs.lemmas.List.{length-map}
@@ -14,19 +14,20 @@ use Rattle.td_certificate.specs.declared.tree.Node.TheVariants as node
 use Rattle.td_certificate.specs.declared.question.Version.{Version}
 use Rattle.td_certificate.specs.declared.question.Version.TheVariants.{First, Second, Third, Fourth}
 use Rattle.td_certificate.specs.declared.certificate.Certificate.{Certificate}
+use Rattle.td_certificate.specs.declared.certificate.Claim.{Claim}
 use Rattle.td_gates.specs.Delays.{IsInRange}
 use Rattle.td_certificate.specs.Questions.{Terms, Question, inputs_of}
 use Rattle.td_certificate.specs.Text.{bit, row, trit, first_trits, second_trits, hold, numbers, outputs, form_text, condition, conditions}
-use Rattle.td_certificate.specs.Spelling.{inputs, version_in, FirstField, SecondField, HoldField, FlipsField, AtField, KeepField, terms_or_plain, terms_of, plain_terms, default_line, output_line, keep_line, field_line, ended, question_text, greatest, latest, AreOutputs, IsCondition, AreConditions, AreTerms, IsNode, HasSpelling}
-use Rattle.td_certificate.specs.Lengths.{IsShort, AreFew, HaveFew, SearchedTextsFit, RefutedTextsFit}
-use Rattle.td_certificate.specs.Steps.{Refuted, steps_text}
+use Rattle.td_certificate.specs.Spelling.{inputs, version_in, FirstField, SecondField, HoldField, FlipsField, AtField, KeepField, terms_or_plain, terms_of, plain_terms, default_line, output_line, keep_line, field_line, ended, question_text, greatest, latest, AreOutputs, IsCondition, AreConditions, AreTerms, IsNode, MayClaim, HasSpelling}
+use Rattle.td_certificate.specs.Lengths.{IsShort, IsShortClaim, AreFew, HaveFew, SearchedTextsFit, RefutedTextsFit}
+use Rattle.td_certificate.specs.Steps.{Refuted, or_none, steps_text, IsBoundText}
 use Rattle.td_certificate.proofs.FieldCodes.{number_text}
 use Rattle.td_certificate.proofs.VectorCodes.{vector_text}
 use Rattle.td_certificate.proofs.VersionCode.{version_text}
 use Rattle.td_certificate.proofs.QuestionCodes.{four_text, third_parts, fourth_parts}
 use Rattle.td_certificate.proofs.NodeCodes.{node_text}
 use Rattle.td_certificate.proofs.TreeCodes.{nodes_text, nodes_text-cons}
-use Rattle.td_certificate.proofs.CertificateCode.{text_from_second, text_from_first, high_text, text_from_high, text_from_time, text_from_question, text_from_gates, text_from_inputs, lines_text, spelling_is}
+use Rattle.td_certificate.proofs.CertificateCode.{text_from_second, text_from_first, high_text, text_from_high, claim_text, text_from_claim, text_from_question, text_from_gates, text_from_inputs, lines_text, spelling_is}
 
 short : (n : ℕ) → n < 10 ^ 15 → length (decimal n) ≤ 15
 short n small = length-decimal-le 15 n (omega arith) small (omega arith)
@@ -241,62 +242,78 @@ high_length Second high small = omega arith
 high_length Third high small = omega arith
 high_length Fourth high small = number_length (codes "high ") 10 high small
 
-head_length : (v : Version) (c : Certificate) → HasSpelling c → HaveFew c.question.terms → c.time < 10 ^ 15 → c.high < 10 ^ 15
+claim_length : (v : Version) (count : ℕ) (z : Option Claim) → MayClaim v count z → IsShortClaim z → length (claim_text v z) ≤ 60 + 2 * count
+claim_length v count None may small = omega arith
+claim_length v count (Some claim) may small =
+    let time : length (codes "time " ++ number_text 10 claim.time) ≤ 21 = number_length (codes "time ") 10 claim.time small.0 in
+    let first : length (codes "from " ++ vector_text claim.pair.first) ≤ 10 + length claim.pair.first = omega (arith, behind_length (codes "from ") claim.pair.first) in
+    let second : length (codes "to " ++ vector_text claim.pair.second) ≤ 8 + length claim.pair.second = omega (arith, behind_length (codes "to ") claim.pair.second) in
+    omega (
+      arith,
+      length-append (codes "time ") (number_text 10 claim.time ++ text_from_high v claim),
+      length-append (number_text 10 claim.time) (text_from_high v claim),
+      length-append (codes "time ") (number_text 10 claim.time),
+      length-append (high_text v claim.high) (text_from_first claim),
+      high_length v claim.high small.1,
+      length-append (codes "from " ++ vector_text claim.pair.first) (text_from_second claim),
+      time,
+      first,
+      second,
+      may.first,
+      may.second,
+    )
+
+head_length : (v : Version) (c : Certificate) → HasSpelling c → v ≡ version_in c → HaveFew c.question.terms → IsShortClaim c.claim
     → length (lines_text v c) ≤ 405600 + length (nodes_text c.tree)
-head_length v c has few small low =
+head_length v c has version few small =
     let question : length (question_text v c.question) ≤ 393500 =
     lines_length c.question v (record { inputs = has.inputs; pins = has.pins; flips = has.flips; count = has.count; moments = has.moments; terms = has.terms; few = few }) in
     let inputs_short : length (number_text 32 (inputs c)) ≤ 16 = number_length [] 32 (inputs c) (omega (arith, has.inputs)) in
     let gates : length (number_text 10 c.gates) ≤ 16 = number_length [] 10 c.gates (omega (arith, has.gates)) in
-    let time : length (codes "time " ++ number_text 10 c.time) ≤ 21 = number_length (codes "time ") 10 c.time small in
-    let first : length (codes "from " ++ vector_text c.pair.first) ≤ 10 + length c.pair.first = omega (arith, behind_length (codes "from ") c.pair.first) in
-    let second : length (codes "to " ++ vector_text c.pair.second) ≤ 8 + length c.pair.second = omega (arith, behind_length (codes "to ") c.pair.second) in
+    let claim : length (claim_text v c.claim) ≤ 60 + 2 * inputs_of c.question =
+    claim_length v (inputs_of c.question) c.claim (subst (λ (w : Version). MayClaim w (inputs_of c.question) c.claim) (sym version) has.claim) small in
     omega (
       arith,
       length-append (codes "circuit ") (text_from_inputs v c),
       length-append (number_text 32 (inputs c)) (text_from_gates v c),
       length-append (number_text 10 c.gates) (text_from_question v c),
-      length-append (question_text v c.question) (text_from_time v c),
-      length-append (codes "time " ++ number_text 10 c.time) (text_from_high v c),
-      length-append (high_text v c.high) (text_from_first c),
-      high_length v c.high low,
-      length-append (codes "from " ++ vector_text c.pair.first) (text_from_second c),
-      length-append (codes "to " ++ vector_text c.pair.second) (nodes_text c.tree),
+      length-append (question_text v c.question) (text_from_claim v c),
+      length-append (claim_text v c.claim) (nodes_text c.tree),
       question,
       inputs_short,
       gates,
-      time,
-      first,
-      second,
+      claim,
       has.inputs,
-      has.first,
-      has.second,
     )
 
 pub searched_texts_fit : SearchedTextsFit
-searched_texts_fit c has asked small low short few =
+searched_texts_fit c has asked small short few =
     omega (
       arith,
       ap length (spelling_is c),
       length-append (version_text (version_in c)) (lines_text (version_in c) c),
       version_length (version_in c),
-      head_length (version_in c) c has asked small low,
+      head_length (version_in c) c has refl asked small,
       nodes_length c.tree short,
     )
 
 -- ---- a leaf that is refuted
 
-refuted_length : (refuted : Refuted) → refuted.bound ≤ 10 ^ 18 → length (node_text (node.Refuted refuted)) ≤ length (steps_text refuted.steps) + 30
+bound_length : (bound : Option ℕ) → IsBoundText bound → length (or_none bound) ≤ 19
+bound_length None small = omega arith
+bound_length (Some bound) small = length-decimal-le 19 bound (omega arith) (omega (arith, small)) (omega arith)
+
+refuted_length : (refuted : Refuted) → IsBoundText refuted.bound → length (node_text (node.Refuted refuted)) ≤ length (steps_text refuted.steps) + 30
 refuted_length refuted small =
     omega (
       arith,
-      length-append (steps_text refuted.steps ++ (codes "q " ++ decimal refuted.bound)) (10 ∷ []),
-      length-append (steps_text refuted.steps) (codes "q " ++ decimal refuted.bound),
-      length-append (codes "q ") (decimal refuted.bound),
-      length-decimal-le 19 refuted.bound (omega arith) (omega (arith, small)) (omega arith),
+      length-append (steps_text refuted.steps ++ (codes "q " ++ or_none refuted.bound)) (10 ∷ []),
+      length-append (steps_text refuted.steps) (codes "q " ++ or_none refuted.bound),
+      length-append (codes "q ") (or_none refuted.bound),
+      bound_length refuted.bound small,
     )
 
-leaf_length : (nodes : List Node) (refuted : Refuted) → nodes ≡ node.Refuted refuted ∷ [] → refuted.bound ≤ 10 ^ 18 → length (nodes_text nodes) ≤ length (steps_text refuted.steps) + 30
+leaf_length : (nodes : List Node) (refuted : Refuted) → nodes ≡ node.Refuted refuted ∷ [] → IsBoundText refuted.bound → length (nodes_text nodes) ≤ length (steps_text refuted.steps) + 30
 leaf_length nodes refuted is small =
     omega (
       arith,
@@ -307,14 +324,14 @@ leaf_length nodes refuted is small =
     )
 
 pub refuted_texts_fit : RefutedTextsFit
-refuted_texts_fit c refuted has asked small low is few =
+refuted_texts_fit c refuted has asked small is few =
     let short = subst (AllByRecursion (IsNode (version_in c))) is has.nodes in
     omega (
       arith,
       ap length (spelling_is c),
       length-append (version_text (version_in c)) (lines_text (version_in c) c),
       version_length (version_in c),
-      head_length (version_in c) c has asked small low,
+      head_length (version_in c) c has refl asked small,
       leaf_length c.tree refuted is short.0.0.bound,
       few,
     )

@@ -1,6 +1,6 @@
 -- A node's line is a code, by the leaves that may stand there.
-use Rattle.std.proofs.Common.{◌≡◌, ℕ, ◌≤◌, true, false, List, [], ◌∷◌, ◌++◌, Ok, Some, refl, sym, ap, subst, ◌∙◌, append_assoc, arith}
-use Rattle.std.specs.Prelude.{codes, decimal}
+use Rattle.std.proofs.Common.{◌≡◌, ℕ, ◌≤◌, true, false, List, [], ◌∷◌, ◌++◌, Ok, Some, None, refl, sym, ap, subst, ◌∙◌, append_assoc, arith}
+use Rattle.std.specs.Prelude.{codes}
 use Rattle.td_certificate.specs.declared.tree.BoundedBy.{BoundedBy}
 use Rattle.td_certificate.specs.declared.tree.BoundedBy.TheVariants.{Arrival, Possible, Both, Edges, EdgesAndPossible}
 use Rattle.td_certificate.specs.declared.tree.Node.{Node}
@@ -10,7 +10,7 @@ use Rattle.td_certificate.specs.declared.question.Version.TheVariants.{First, Se
 use Rattle.td_certificate.specs.declared.fields.Leaves.{Leaves}
 use Rattle.td_certificate.specs.declared.fields.Leaves.TheVariants as leaves
 use Rattle.td_certificate.specs.Trees.{is_of_edges}
-use Rattle.td_certificate.specs.Steps.{Refuted, steps_text, IsRefutedText}
+use Rattle.td_certificate.specs.Steps.{Refuted, or_none, steps_text, IsRefutedText}
 use Rattle.td_certificate.proofs.StepCodes.{refuted_tail, refuted_code}
 use Rattle.td_certificate.specs.Spelling.{ended, greatest, IsNode}
 use Rattle.td_certificate.specs.Text.{letter, node_line}
@@ -157,7 +157,7 @@ value_of (node.Refuted refuted) = 0
 
 abbrev refuted_of : Node → Refuted
 refuted_of (node.Refuted refuted) = refuted
-refuted_of n = record { steps = []; bound = 0 }
+refuted_of n = record { steps = []; bound = None }
 
 abbrev domain_of : Node → BoundedBy
 domain_of (node.Split position) = Arrival
@@ -280,10 +280,10 @@ empty_from here (node.Refuted refuted) v = absurd (let e : RefutedTag ≡ EmptyT
 
 refuted_to : (here : Leaves) (n : Node) → IsRefutedText (refuted_of n) × (n ≡ node.Refuted (refuted_of n)) → HasTag here RefutedTag n
 refuted_to here (node.Refuted refuted) v = record { fits = omega arith; domain = tt; steps = v.0; tag_is = refl }
-refuted_to here (node.Split position) v = absurd (let e : node.Split position ≡ node.Refuted (record { steps = []; bound = 0 }) = v.1 in cc)
-refuted_to here (node.Bound domain bound) v = absurd (let e : node.Bound domain bound ≡ node.Refuted (record { steps = []; bound = 0 }) = v.1 in cc)
-refuted_to here (node.Point time) v = absurd (let e : node.Point time ≡ node.Refuted (record { steps = []; bound = 0 }) = v.1 in cc)
-refuted_to here node.Empty v = absurd (let e : node.Empty ≡ node.Refuted (record { steps = []; bound = 0 }) = v.1 in cc)
+refuted_to here (node.Split position) v = absurd (let e : node.Split position ≡ node.Refuted (record { steps = []; bound = None }) = v.1 in cc)
+refuted_to here (node.Bound domain bound) v = absurd (let e : node.Bound domain bound ≡ node.Refuted (record { steps = []; bound = None }) = v.1 in cc)
+refuted_to here (node.Point time) v = absurd (let e : node.Point time ≡ node.Refuted (record { steps = []; bound = None }) = v.1 in cc)
+refuted_to here node.Empty v = absurd (let e : node.Empty ≡ node.Refuted (record { steps = []; bound = None }) = v.1 in cc)
 
 refuted_from : (here : Leaves) (n : Node) → HasTag here RefutedTag n → IsRefutedText (refuted_of n) × (n ≡ node.Refuted (refuted_of n))
 refuted_from here (node.Refuted refuted) v = (v.steps, refl)
@@ -335,7 +335,7 @@ node_parts (node.Bound EdgesAndPossible bound) = refl
 node_parts (node.Point time) = refl
 node_parts node.Empty = refl
 node_parts (node.Refuted refuted) =
-    ap (λ (t : List ℕ). codes "x\n" ++ t) (append_assoc (steps_text refuted.steps) (codes "q " ++ decimal refuted.bound) (10 ∷ []))
+    ap (λ (t : List ℕ). codes "x\n" ++ t) (append_assoc (steps_text refuted.steps) (codes "q " ++ or_none refuted.bound) (10 ∷ []))
 
 -- a node that may stand there has one of its tags and domains, and its number is within the limit
 pub record MayStand (here : Leaves) (n : Node) : Type 0 where

@@ -20,7 +20,7 @@ use Rattle.td_certificate.specs.Text.{level_byte}
 use Rattle.td_certificate.specs.ConditionReading.{sign_byte, signs, second_levels, behind_sign, form_at, condition_by, condition_at, conditions_at, kept_at}
 use Rattle.td_domain.specs.Cubes.{weave}
 use Rattle.td_certificate.specs.Spelling.{greatest, latest}
-use Rattle.td_certificate.specs.Reading.{Ends, Wrong, Reading, ◌>>=◌, literal, digits_at, number_at, begins_with_zero, number_from, taken, char_at, chars_at, trit_of, hold_of, bit_of, chars_behind, letter_at, number_behind, row_behind, because, has_inputs, most_flips, flips_at, with_pins, admit_at, close_of, moment_at, moments_at, at_line, asked, dated_at, steps_at, delays, default_at, outputs_at, terms_by, terms_at, with_keep, with_terms, told_at, question_at, Tag, SplitTag, BoundTag, PointTag, EmptyTag, RefutedTag, written_as, tag_at, behind_tag, node_at, leaves_in, high_at, nodes_within, nodes_at, with_fields, lines_at}
+use Rattle.td_certificate.specs.Reading.{Ends, Wrong, Reading, ◌>>=◌, literal, digits_at, number_at, begins_with_zero, begins_none, number_or_none, number_from, taken, char_at, chars_at, trit_of, hold_of, bit_of, chars_behind, letter_at, number_behind, row_behind, because, has_inputs, most_flips, flips_at, with_pins, admit_at, close_of, moment_at, moments_at, at_line, asked, dated_at, steps_at, delays, default_at, outputs_at, terms_by, terms_at, with_keep, with_terms, told_at, question_at, Tag, SplitTag, BoundTag, PointTag, EmptyTag, RefutedTag, written_as, tag_at, behind_tag, node_at, leaves_in, may_claim_none, high_at, claim_of, timed_at, claim_behind, claim_at, nodes_within, nodes_at, with_fields, lines_at}
 use Rattle.td_certificate.specs.StepReading.{ended_by, until_within, until_at, open_digits_at, open_number_at, numbers_at, closing_byte, numbers_after, spaced_at, LineTag, StepTag, BoundEndTag, line_byte, line_tags, StepLine, BoundLine, behind_line_tag, refuted_line_at, is_bound_line, bound_alone, step_before, refuted_at}
 use Rattle.td_certificate.proofs.Loops.{done}
 use Rattle.td_certificate.proofs.Codes.{bind_err}
@@ -120,6 +120,19 @@ row_behind_plain word value (suc count) bytes = chars_behind_plain word value (s
 number_behind_plain : (word : List ℕ) (most close : ℕ) (bytes : List ℕ) → Plain (number_behind word most close bytes)
 unfolding number_behind
 number_behind_plain word most close bytes = plain_then (literal word bytes) (λ behind. number_at most close behind.1) (literal_plain word bytes) (λ behind. number_plain most close behind.1)
+
+abbrev no_number : Unit {0} × List ℕ → Reading (Option ℕ)
+no_number word = Ok (None, word.1)
+
+abbrev some_number : ℕ × List ℕ → Reading (Option ℕ)
+some_number number = Ok (Some number.0, number.1)
+
+told_number_plain : (may : Bool) (bytes : List ℕ) → Plain (number_or_none may bytes)
+unfolding number_or_none
+told_number_plain may bytes =
+    plain_if (begins_none may bytes) (literal (codes "none\n") bytes >>= no_number) (number_at greatest 10 bytes >>= some_number)
+    (plain_then (literal (codes "none\n") bytes) no_number (literal_plain (codes "none\n") bytes) (λ word. plain_ok (None, word.1)))
+    (plain_then (number_at greatest 10 bytes) some_number (number_plain greatest 10 bytes) (λ number. plain_ok (Some number.0, number.1)))
 
 -- ---- the question
 
@@ -314,8 +327,8 @@ line_tail_plain (StepTag kind) bytes =
     plain_then (spaced_at bytes) (λ numbers. Ok (StepLine (record { kind = kind; numbers = numbers.0 }), numbers.1)) (spaced_plain bytes)
     (λ numbers. plain_ok (StepLine (record { kind = kind; numbers = numbers.0 }), numbers.1))
 line_tail_plain BoundEndTag bytes =
-    plain_then (number_behind (codes " ") greatest 10 bytes) (λ bound. Ok (BoundLine bound.0, bound.1)) (number_behind_plain (codes " ") greatest 10 bytes)
-    (λ bound. plain_ok (BoundLine bound.0, bound.1))
+    plain_then (literal (codes " ") bytes) (λ space. number_or_none true space.1 >>= λ bound. Ok (BoundLine bound.0, bound.1)) (literal_plain (codes " ") bytes)
+    (λ space. plain_then (number_or_none true space.1) (λ bound. Ok (BoundLine bound.0, bound.1)) (told_number_plain true space.1) (λ bound. plain_ok (BoundLine bound.0, bound.1)))
 
 line_plain : (bytes : List ℕ) → Plain (refuted_line_at bytes)
 unfolding refuted_line_at
@@ -375,14 +388,6 @@ nodes_plain here pending bytes = within_plain here _ pending bytes
 
 -- ---- the lines after the first
 
-abbrev pub behind_second : Version → ℕ → ℕ → Question → ℕ → ℕ → List Bool → List ℕ → Reading Certificate
-behind_second v i g q t h f bytes = row_behind (codes "to ") bit_of i bytes >>= λ second. nodes_at (leaves_in v) 1 second.1 >>= λ tree. Ok (with_fields g q t h f second.0 tree.0, tree.1)
-
-second_plain : (v : Version) (i g : ℕ) (q : Question) (t h : ℕ) (f : List Bool) (bytes : List ℕ) → Plain (behind_second v i g q t h f bytes)
-second_plain v i g q t h f bytes =
-    plain_then (row_behind (codes "to ") bit_of i bytes) (λ second. nodes_at (leaves_in v) 1 second.1 >>= λ tree. Ok (with_fields g q t h f second.0 tree.0, tree.1)) (row_behind_plain (codes "to ") bit_of i bytes)
-    (λ second. plain_then (nodes_at (leaves_in v) 1 second.1) (λ tree. Ok (with_fields g q t h f second.0 tree.0, tree.1)) (nodes_plain (leaves_in v) 1 second.1) (λ tree. plain_ok (with_fields g q t h f second.0 tree.0, tree.1)))
-
 high_plain : (v : Version) (t : ℕ) (bytes : List ℕ) → Plain (high_at v t bytes)
 unfolding high_at
 high_plain First t bytes = plain_ok (t, bytes)
@@ -390,14 +395,34 @@ high_plain Second t bytes = plain_ok (t, bytes)
 high_plain Third t bytes = plain_ok (t, bytes)
 high_plain Fourth t bytes = number_behind_plain (codes "high ") greatest 10 bytes
 
-abbrev behind_question : Version → ℕ → ℕ → Question → List ℕ → Reading Certificate
-behind_question v i g q bytes = number_behind (codes "time ") greatest 10 bytes >>= λ time. high_at v time.0 time.1 >>= λ high. row_behind (codes "from ") bit_of i high.1 >>= λ first. behind_second v i g q time.0 high.0 first.0 first.1
+timed_plain : (v : Version) (i t : ℕ) (bytes : List ℕ) → Plain (timed_at v i t bytes)
+unfolding timed_at
+timed_plain v i t bytes =
+    plain_then (high_at v t bytes) (λ high. row_behind (codes "from ") bit_of i high.1 >>= λ first. row_behind (codes "to ") bit_of i first.1 >>= λ second. Ok (claim_of t high.0 first.0 second.0, second.1)) (high_plain v t bytes)
+    (λ high. plain_then (row_behind (codes "from ") bit_of i high.1) (λ first. row_behind (codes "to ") bit_of i first.1 >>= λ second. Ok (claim_of t high.0 first.0 second.0, second.1)) (row_behind_plain (codes "from ") bit_of i high.1)
+    (λ first. plain_then (row_behind (codes "to ") bit_of i first.1) (λ second. Ok (claim_of t high.0 first.0 second.0, second.1)) (row_behind_plain (codes "to ") bit_of i first.1)
+    (λ second. plain_ok (claim_of t high.0 first.0 second.0, second.1))))
 
-time_plain : (v : Version) (i g : ℕ) (q : Question) (bytes : List ℕ) → Plain (behind_question v i g q bytes)
-time_plain v i g q bytes =
-    plain_then (number_behind (codes "time ") greatest 10 bytes) (λ time. high_at v time.0 time.1 >>= λ high. row_behind (codes "from ") bit_of i high.1 >>= λ first. behind_second v i g q time.0 high.0 first.0 first.1) (number_behind_plain (codes "time ") greatest 10 bytes)
-    (λ time. plain_then (high_at v time.0 time.1) (λ high. row_behind (codes "from ") bit_of i high.1 >>= λ first. behind_second v i g q time.0 high.0 first.0 first.1) (high_plain v time.0 time.1)
-    (λ high. plain_then (row_behind (codes "from ") bit_of i high.1) (λ first. behind_second v i g q time.0 high.0 first.0 first.1) (row_behind_plain (codes "from ") bit_of i high.1) (λ first. second_plain v i g q time.0 high.0 first.0 first.1)))
+behind_time_plain : (v : Version) (i : ℕ) (time : Option ℕ) (bytes : List ℕ) → Plain (claim_behind v i time bytes)
+unfolding claim_behind
+behind_time_plain v i None bytes = plain_ok (None, bytes)
+behind_time_plain v i (Some t) bytes =
+    plain_then (timed_at v i t bytes) (λ claim. Ok (Some claim.0, claim.1)) (timed_plain v i t bytes) (λ claim. plain_ok (Some claim.0, claim.1))
+
+claim_plain : (v : Version) (i : ℕ) (bytes : List ℕ) → Plain (claim_at v i bytes)
+unfolding claim_at
+claim_plain v i bytes =
+    plain_then (literal (codes "time ") bytes) (λ word. number_or_none (may_claim_none v) word.1 >>= λ time. claim_behind v i time.0 time.1) (literal_plain (codes "time ") bytes)
+    (λ word. plain_then (number_or_none (may_claim_none v) word.1) (λ time. claim_behind v i time.0 time.1) (told_number_plain (may_claim_none v) word.1)
+    (λ time. behind_time_plain v i time.0 time.1))
+
+abbrev behind_question : Version → ℕ → ℕ → Question → List ℕ → Reading Certificate
+behind_question v i g q bytes = claim_at v i bytes >>= λ claim. nodes_at (leaves_in v) 1 claim.1 >>= λ tree. Ok (with_fields g q claim.0 tree.0, tree.1)
+
+answer_plain : (v : Version) (i g : ℕ) (q : Question) (bytes : List ℕ) → Plain (behind_question v i g q bytes)
+answer_plain v i g q bytes =
+    plain_then (claim_at v i bytes) (λ claim. nodes_at (leaves_in v) 1 claim.1 >>= λ tree. Ok (with_fields g q claim.0 tree.0, tree.1)) (claim_plain v i bytes)
+    (λ claim. plain_then (nodes_at (leaves_in v) 1 claim.1) (λ tree. Ok (with_fields g q claim.0 tree.0, tree.1)) (nodes_plain (leaves_in v) 1 claim.1) (λ tree. plain_ok (with_fields g q claim.0 tree.0, tree.1)))
 
 abbrev behind_inputs : Version → ℕ → List ℕ → Reading Certificate
 behind_inputs v i bytes = number_at 200000 10 bytes >>= λ gates. question_at v i gates.1 >>= λ question. behind_question v i gates.0 question.0 question.1
@@ -405,7 +430,7 @@ behind_inputs v i bytes = number_at 200000 10 bytes >>= λ gates. question_at v 
 inputs_plain : (v : Version) (i : ℕ) (bytes : List ℕ) → Plain (behind_inputs v i bytes)
 inputs_plain v i bytes =
     plain_then (number_at 200000 10 bytes) (λ gates. question_at v i gates.1 >>= λ question. behind_question v i gates.0 question.0 question.1) (number_plain 200000 10 bytes)
-    (λ gates. plain_then (question_at v i gates.1) (λ question. behind_question v i gates.0 question.0 question.1) (question_plain v i gates.1) (λ question. time_plain v i gates.0 question.0 question.1))
+    (λ gates. plain_then (question_at v i gates.1) (λ question. behind_question v i gates.0 question.0 question.1) (question_plain v i gates.1) (λ question. answer_plain v i gates.0 question.0 question.1))
 
 abbrev behind_word : Version → List ℕ → Reading Certificate
 behind_word v bytes = number_from (has_inputs v) 4096 32 bytes >>= λ inputs. behind_inputs v inputs.0 inputs.1

@@ -202,9 +202,7 @@ abbrev certificate : ℕ → Certificate
 certificate bound = record {
   gates = 1;
   question = question;
-  time = 3;
-  high = 3;
-  pair = record { first = false ∷ []; second = true ∷ [] };
+  claim = Some (record { time = 3; high = 3; pair = record { first = false ∷ []; second = true ∷ [] } });
   tree = node.Bound by.Arrival bound ∷ [];
 }
 
@@ -220,9 +218,7 @@ abbrev edged : Certificate
 edged = record {
   gates = 1;
   question = record { admit = question.admit; moments = question.moments; terms = Some (record { default = record { rise = 1; fall = 1 }; outputs = None; keep = [] }) };
-  time = 3;
-  high = 3;
-  pair = record { first = false ∷ []; second = true ∷ [] };
+  claim = Some (record { time = 3; high = 3; pair = record { first = false ∷ []; second = true ∷ [] } });
   tree = node.Bound by.Edges 3 ∷ [];
 }
 
@@ -232,18 +228,18 @@ in_fourth = refl
 -- with 3 it is accepted
 accepted : Accepts inverter (certificate 3)
 accepted = record {
-  size = record { inputs = refl; gates = refl; fit = refl };
+  size = record { inputs = refl; gates = refl; pins = refl; fit = refl };
   admitted = record {
     admitted = record { pinned = (tt, tt, tt); held = (λ e. absurd cc, tt); few = omega arith };
     kept = nothing_kept inverter (record { first = false ∷ []; second = true ∷ [] });
   };
   reached = has_delay;
   tree = refl;
-  good = (record { splits = tt; one_pair = tt; of_cube = is_bounded; within = omega arith }, tt);
+  good = (record { splits = tt; enough = tt; one_pair = tt; of_cube = is_bounded; within = omega arith }, tt);
 }
 
 -- a leaf with 2 is below the bound, and no good line
-two_is_low : ¬ IsGood given (asking_of question) 3 (record { cube = Free ∷ Free ∷ []; node = node.Bound by.Arrival 2 })
+two_is_low : ¬ IsGood given (asking_of question) (Some 3) (record { cube = Free ∷ Free ∷ []; node = node.Bound by.Arrival 2 })
 two_is_low good =
     let least = good.of_cube in
     let are = least.is.are_signals in
@@ -255,15 +251,15 @@ two_is_low good =
     omega (arith, three, least.within)
 
 -- nor is a leaf with 4, above the time
-four_is_high : ¬ IsGood given (asking_of question) 3 (record { cube = Free ∷ Free ∷ []; node = node.Bound by.Arrival 4 })
+four_is_high : ¬ IsGood given (asking_of question) (Some 3) (record { cube = Free ∷ Free ∷ []; node = node.Bound by.Arrival 4 })
 four_is_high good = omega (arith, good.within)
 
 -- nor a leaf of one pair where something is free
-not_one_pair : ¬ IsGood given (asking_of question) 3 (record { cube = Free ∷ Free ∷ []; node = node.Point 3 })
+not_one_pair : ¬ IsGood given (asking_of question) (Some 3) (record { cube = Free ∷ Free ∷ []; node = node.Point 3 })
 not_one_pair good = (recursion_from_All (λ (trit : Trit). trit ≢ Free) (Free ∷ Free ∷ []) good.one_pair).0 refl
 
 -- nor a leaf without an admitted pair where one lies
-not_empty : ¬ IsGood given (asking_of question) 3 (record { cube = Free ∷ Free ∷ []; node = node.Empty })
+not_empty : ¬ IsGood given (asking_of question) (Some 3) (record { cube = Free ∷ Free ∷ []; node = node.Empty })
 not_empty good =
     good.of_cube (
       (record { first = false ∷ []; second = false ∷ [] }, record { pinned = (tt, tt, tt); held = (λ e. absurd cc, tt); few = omega arith }, (tt, tt, tt)),
@@ -284,8 +280,51 @@ no_flip pair admitted is_in = let few = admitted.few in no_pair pair.first pair.
     no_pair (false ∷ before) (false ∷ after) few h = absurd h.1
     no_pair (false ∷ before) (true ∷ after) few h = absurd (omega (arith, few))
 
-is_empty : IsGood given (all_admitted still) 3 (record { cube = Zero ∷ One ∷ []; node = node.Empty })
-is_empty = record { splits = tt; one_pair = tt; of_cube = λ may. no_flip may.0.0 may.0.1 may.0.2; within = tt }
+is_empty : IsGood given (all_admitted still) (Some 3) (record { cube = Zero ∷ One ∷ []; node = node.Empty })
+is_empty = record { splits = tt; enough = tt; one_pair = tt; of_cube = λ may. no_flip may.0.0 may.0.1 may.0.2; within = tt }
+
+-- a certificate that no pair is admitted: the pins are 0 and 1, and no flip is allowed
+abbrev apart : Certificate
+apart = record {
+  gates = 1;
+  question = record {
+    admit = record { pins = Zero ∷ One ∷ []; held = false ∷ []; flips = 0 };
+    moments = 0 ∷ [];
+    terms = Some (record { default = record { rise = 1; fall = 1 }; outputs = None; keep = [] });
+  };
+  claim = None;
+  tree = node.Empty ∷ [];
+}
+
+apart_accepted : Accepts inverter apart
+apart_accepted = record {
+  size = record { inputs = refl; gates = refl; pins = refl; fit = refl };
+  admitted = tt;
+  reached = tt;
+  tree = refl;
+  good = (
+    record {
+      splits = tt;
+      enough = tt;
+      one_pair = tt;
+      of_cube = λ may. no_flip may.0.0 (record { pinned = tt_pinned may.0.0 may.0.2; held = may.0.1.held; few = may.0.1.few }) may.0.2;
+      within = tt;
+    },
+    tt,
+  );
+}
+  where
+    tt_pinned : (pair : Pair) → IsIn pair (Zero ∷ One ∷ []) → IsIn pair (Free ∷ Free ∷ [])
+    tt_pinned pair is_in = free pair.first pair.second is_in
+      where
+        free : (before after : List Bool) → AllowsBits (Zero ∷ One ∷ []) before after → AllowsBits (Free ∷ Free ∷ []) before after
+        free [] after h = absurd h
+        free (a ∷ before) [] h = absurd h
+        free (a ∷ before) (b ∷ after) h = (tt, tt, h.2)
+
+-- there a leaf with a number is no good line
+too_little : ¬ IsGood given (asking_of question) None (record { cube = Free ∷ Free ∷ []; node = node.Bound by.Arrival 3 })
+too_little good = good.enough
 
 -- such pairs are of the second version, and with a moment that isn't 0 of the third
 is_second : version_of (record { admit = still; moments = 0 ∷ []; terms = None }) ≡ Second

@@ -1,5 +1,5 @@
 -- Numbers of a line, lines of a leaf that is refuted, and all of them are codes.
-use Rattle.std.proofs.Common.{◌≡◌, ℕ, ◌+◌, ◌-◌, ◌*◌, ◌/◌, ◌%◌, ◌^◌, ◌<◌, ◌≤◌, Bool, true, false, eqb, ltb, leb, List, [], ◌∷◌, ◌++◌, length, Ok, Err, Option, Some, refl, sym, ap, subst, ◌∙◌, append_assoc, arith}
+use Rattle.std.proofs.Common.{◌≡◌, ℕ, ◌+◌, ◌-◌, ◌*◌, ◌/◌, ◌%◌, ◌^◌, ◌<◌, ◌≤◌, Bool, true, false, eqb, ltb, leb, List, [], ◌∷◌, ◌++◌, length, Ok, Err, Option, Some, None, refl, sym, ap, subst, ◌∙◌, append_assoc, arith}
 use Rattle.std.specs.Prelude.{codes, decimal}
 use Rattle.std.specs.List.{AllByRecursion}
 use Rattle.std.specs.Char.{is_ascii_digit}
@@ -13,13 +13,14 @@ use Rattle.td_certificate.specs.declared.fields.Reason.{Reason}
 use Rattle.td_certificate.specs.declared.fields.Reason.TheVariants.{Syntax, NumberTooLarge}
 use Rattle.td_certificate.specs.Spelling.{greatest}
 use Rattle.td_refutation.specs.Whole.{Step}
-use Rattle.td_certificate.specs.Steps.{Refuted, kind_byte, spaced, step_text, steps_text, IsStep, IsRefutedText}
-use Rattle.td_certificate.specs.Reading.{Ends, Wrong, number_behind, written_as, char_at}
+use Rattle.td_certificate.specs.Steps.{Refuted, kind_byte, spaced, step_text, steps_text, IsStep, IsBoundText, IsRefutedText}
+use Rattle.td_certificate.specs.Reading.{Ends, Wrong, ◌>>=◌, number_or_none, written_as, char_at}
 use Rattle.td_certificate.specs.StepReading.{open_digits_at, open_number_at, numbers_at, closing_byte, numbers_after, spaced_at, LineTag, StepTag, BoundEndTag, line_byte, line_tags, RefutedLine, StepLine, BoundLine, behind_line_tag, refuted_line_at, is_bound_line, bound_alone, step_before, refuted_at}
 use Rattle.td_certificate.proofs.Loops.{done, done_is}
 use Rattle.td_certificate.proofs.Codes.{IsCode, IsFrontOf, IsStopped, IsCode-then, IsCode-done}
-use Rattle.td_certificate.proofs.FieldCodes.{ends, wrong, stopped_at_once, stopped_behind, Always, AtMost, IsLimit, number_text, digit_range, range_digit, decimal_more}
-use Rattle.td_certificate.proofs.VectorCodes.{cases, IsLetter, written_from, char_code, number_behind_code, mapped_code}
+use Rattle.td_certificate.proofs.FieldCodes.{ends, wrong, stopped_at_once, stopped_behind, Always, digit_range, range_digit, decimal_more}
+use Rattle.td_certificate.proofs.VectorCodes.{cases, IsLetter, written_from, char_code, behind_word, mapped_code}
+use Rattle.td_certificate.proofs.ToldCodes.{told_text, bound_code}
 use Rattle.td_certificate.proofs.Until.{IsUntil, Parts, alone, before, until_code}
 
 -- ---- a number and the byte that closes it
@@ -337,11 +338,11 @@ spaced_code =
 
 abbrev pub IsLine : RefutedLine → Type 0
 IsLine (StepLine step) = IsStep step
-IsLine (BoundLine bound) = bound ≤ greatest
+IsLine (BoundLine bound) = IsBoundText bound
 
 abbrev pub line_text : RefutedLine → List ℕ
 line_text (StepLine step) = step_text step
-line_text (BoundLine bound) = 113 ∷ (codes " " ++ number_text 10 bound)
+line_text (BoundLine bound) = 113 ∷ (codes " " ++ told_text bound)
 
 abbrev tag_of : RefutedLine → LineTag
 tag_of (StepLine step) = StepTag step.kind
@@ -351,8 +352,8 @@ abbrev numbers_in : RefutedLine → List ℕ
 numbers_in (StepLine step) = step.numbers
 numbers_in (BoundLine bound) = []
 
-abbrev bound_in : RefutedLine → ℕ
-bound_in (StepLine step) = 0
+abbrev bound_in : RefutedLine → Option ℕ
+bound_in (StepLine step) = None
 bound_in (BoundLine bound) = bound
 
 abbrev with_numbers : StepKind → List ℕ → RefutedLine
@@ -360,11 +361,11 @@ with_numbers kind numbers = StepLine (record { kind = kind; numbers = numbers })
 
 abbrev HasTag : LineTag → RefutedLine → Type 0
 HasTag (StepTag kind) line = AreSmall (numbers_in line) × (line ≡ with_numbers kind (numbers_in line))
-HasTag BoundEndTag line = AtMost greatest (bound_in line) × (line ≡ BoundLine (bound_in line))
+HasTag BoundEndTag line = IsBoundText (bound_in line) × (line ≡ BoundLine (bound_in line))
 
 abbrev tail_text : LineTag → RefutedLine → List ℕ
 tail_text (StepTag kind) line = spaced_text (numbers_in line)
-tail_text BoundEndTag line = codes " " ++ number_text 10 (bound_in line)
+tail_text BoundEndTag line = codes " " ++ told_text (bound_in line)
 
 abbrev tag_value : ℕ → Option LineTag
 tag_value b = written_as line_byte line_tags b
@@ -392,15 +393,12 @@ tag_letter = record {
   from = λ b x e. written_from Always line_byte line_tags (tt, (tt, (tt, (tt, (tt, (tt, (tt, (tt, (tt, (tt, (tt, (tt, (tt, tt))))))))))))) b x e;
 }
 
-bound_limit : IsLimit greatest 10
-bound_limit = record { high = omega arith; close_is = refl }
-
 tail_code : (tag : LineTag) → IsCode (HasTag tag) (tail_text tag) (behind_line_tag tag)
 unfolding behind_line_tag
 tail_code (StepTag kind) = mapped_code (with_numbers kind) numbers_in AreSmall spaced_text spaced_at (λ ns. refl) spaced_code
 tail_code BoundEndTag =
-    mapped_code (λ bound. BoundLine bound) bound_in (AtMost greatest) (λ n. codes " " ++ number_text 10 n) (number_behind (codes " ") greatest 10) (λ n. refl)
-    (number_behind_code (codes " ") greatest 10 bound_limit)
+    behind_word (codes " ") (λ line. HasTag BoundEndTag line) (λ line. told_text (bound_in line)) (λ bytes. number_or_none true bytes >>= λ bound. Ok (BoundLine bound.0, bound.1))
+    (mapped_code (λ bound. BoundLine bound) bound_in IsBoundText told_text (number_or_none true) (λ n. refl) bound_code)
 
 line_down : (line : RefutedLine) → IsLine line → Always (tag_of line) × HasTag (tag_of line) line × (line_text line ≡ (line_byte (tag_of line) ∷ []) ++ tail_text (tag_of line) line)
 line_down (StepLine step) v = (tt, (v, refl), refl)
@@ -415,7 +413,7 @@ line_up (StepTag kind) (StepLine step) v =
     kind_is this that e = cc
 line_up (StepTag kind) (BoundLine bound) v = absurd (let e : BoundLine bound ≡ with_numbers kind [] = v.1 in cc)
 line_up BoundEndTag (BoundLine bound) v = (v.0, refl)
-line_up BoundEndTag (StepLine step) v = absurd (let e : StepLine step ≡ BoundLine 0 = v.1 in cc)
+line_up BoundEndTag (StepLine step) v = absurd (let e : StepLine step ≡ BoundLine None = v.1 in cc)
 
 pub line_code : IsCode IsLine line_text refuted_line_at
 unfolding refuted_line_at
@@ -431,14 +429,14 @@ line_code =
 abbrev pub refuted_tail : Refuted → List ℕ
 refuted_tail refuted = steps_text refuted.steps ++ line_text (BoundLine refuted.bound)
 
-abbrev refuted_of : List Step → ℕ → Refuted
+abbrev refuted_of : List Step → Option ℕ → Refuted
 refuted_of steps bound = record { steps = steps; bound = bound }
 
-pub step_first : (step : Step) (steps : List Step) (bound : ℕ) → refuted_tail (refuted_of (step ∷ steps) bound) ≡ step_text step ++ refuted_tail (refuted_of steps bound)
+pub step_first : (step : Step) (steps : List Step) (bound : Option ℕ) → refuted_tail (refuted_of (step ∷ steps) bound) ≡ step_text step ++ refuted_tail (refuted_of steps bound)
 step_first step steps bound =
     ap (λ (t : List ℕ). t ++ line_text (BoundLine bound)) (flat_map-cons step_text step steps) ∙ append_assoc (step_text step) (steps_text steps) (line_text (BoundLine bound))
 
-refuted_parts : (steps : List Step) (bound : ℕ) → IsRefutedText (refuted_of steps bound)
+refuted_parts : (steps : List Step) (bound : Option ℕ) → IsRefutedText (refuted_of steps bound)
     → Parts is_bound_line bound_alone step_before IsLine line_text IsRefutedText refuted_tail (refuted_of steps bound)
 refuted_parts [] bound v = alone (BoundLine bound) v.bound refl refl refl
 refuted_parts (step ∷ steps) bound v =
@@ -459,8 +457,8 @@ line_long (BoundLine bound) = omega arith
 
 refuted_until : IsUntil is_bound_line bound_alone step_before IsLine line_text IsRefutedText refuted_tail
 refuted_until = record {
-  some = BoundLine 0;
-  some_is = omega arith;
+  some = BoundLine None;
+  some_is = tt;
   some_last = refl;
   long = λ line v. line_long line;
   parts = λ refuted v. refuted_parts refuted.steps refuted.bound v;

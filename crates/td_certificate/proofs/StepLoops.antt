@@ -1,6 +1,6 @@
 -- The loops over the numbers of a line and over lines, and steps that are kept as their lines.
 use Rattle.std.proofs.Common.{◌≡◌, ℕ, ◌-◌, ◌<◌, ◌≤◌, Bool, true, false, List, [], ◌∷◌, ◌++◌, length, take, Ok, Err, refl, sym, ap, subst, ◌∙◌, append_assoc, arith}
-use Rattle.std.specs.Prelude.{codes, Some}
+use Rattle.std.specs.Prelude.{codes, Option, Some}
 use Rattle.std.specs.List.{AllByRecursion}
 use Rattle.std.proofs.lemmas.List.{append-nil, length-append}
 use Rattle.std.proofs.Math.Seq.{take-append_seam}
@@ -40,12 +40,12 @@ numbers_stop stop front rest total e so_far = listed_stop open_code (λ x v. ope
 
 -- ---- steps that are kept as their lines
 
-zero_line : line_text (BoundLine 0) ≡ codes "q 0\n"
+zero_line : line_text (BoundLine (Some 0)) ≡ codes "q 0\n"
 zero_line = ap (λ (t : List ℕ). 113 ∷ 32 ∷ (t ++ 10 ∷ [])) (decimal_digit 0 (omega arith))
 
 pub steps_back : (steps : List Step) → AllByRecursion IsStep steps → steps_in (steps_text steps) ≡ steps
 steps_back steps all =
-    let whole : Refuted = record { steps = steps; bound = 0 } in
+    let whole : Refuted = record { steps = steps; bound = Some 0 } in
     let again = refuted_code.again whole [] (record { steps = all; bound = omega arith }) in
     let same : refuted_at (steps_text steps ++ codes "q 0\n") ≡ Ok (whole, []) =
     ap refuted_at (ap (λ (t : List ℕ). steps_text steps ++ t) (sym zero_line) ∙ sym (append-nil (refuted_tail whole))) ∙ again in
@@ -118,7 +118,7 @@ front_is text rest front e =
 pub lines_are : (text rest : List ℕ) → AreRead text rest → AreLines (take (length text - length rest) text)
 lines_are text rest so_far = lines_of_steps so_far.front (take (length text - length rest) text) so_far.steps (front_is text rest (steps_text so_far.front) so_far.parts)
 
-pub lines_done : (text rest after : List ℕ) (bound : ℕ) (refuted : Refuted) → AreRead text rest → refuted_line_at rest ≡ Ok (BoundLine bound, after)
+pub lines_done : (text rest after : List ℕ) (bound : Option ℕ) (refuted : Refuted) → AreRead text rest → refuted_line_at rest ≡ Ok (BoundLine bound, after)
     → refuted ≡ refuted_by (take (length text - length rest) text) bound → refuted_at text ≡ Ok (refuted, after)
 lines_done text rest after bound refuted so_far e is =
     let back : steps_in (take (length text - length rest) text) ≡ so_far.front =

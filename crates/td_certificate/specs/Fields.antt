@@ -1,10 +1,11 @@
 -- Fields that are read from the front of the bytes, up to the first byte that can't be read on.
-use Rattle.std.specs.Prelude.{◌≡◌, ℕ, ◌+◌, ◌-◌, ◌*◌, Bool, false, List, [], ◌∷◌, Option, Some, None, Result, Ok, Err, nat_lt, nat_le, ◌==◌, ◌&&◌, if◌then◌else◌}
+use Rattle.std.specs.Prelude.{◌≡◌, ℕ, ◌+◌, ◌-◌, ◌*◌, Bool, false, List, [], ◌∷◌, codes, Option, Some, None, Result, Ok, Err, nat_lt, nat_le, ◌==◌, ◌&&◌, if◌then◌else◌}
 use Rattle.std.specs.Char.{is_ascii_digit}
 use Rattle.td_certificate.specs.declared.fields.Reason.{Reason}
 use Rattle.td_certificate.specs.declared.fields.Reason.TheVariants.{Syntax, NumberTooLarge}
 use Rattle.td_certificate.specs.declared.fields.Stop as code_stop
 use Rattle.td_certificate.specs.declared.fields.Stop.TheVariants as code
+use Rattle.td_certificate.specs.Steps.{greatest}
 
 -- why reading stops: the bytes end, or from here on they can't be read, for this reason
 pub data Stop : Type 0 where
@@ -86,3 +87,13 @@ unfoldable pub number_behind : List ℕ → ℕ → ℕ → List ℕ → Reading
 number_behind word most close bytes = do
   behind ← literal word bytes
   number_at most close behind.1
+
+-- whether `none` begins here, where it may stand in a number's place
+abbrev pub begins_none : Bool → List ℕ → Bool
+begins_none may [] = false
+begins_none may (b ∷ rest) = may && b == 110
+
+-- a number up to the greatest and the newline, or `none` where it may stand in a number's place
+unfoldable pub number_or_none : Bool → List ℕ → Reading (Option ℕ)
+number_or_none may bytes = if begins_none may bytes then (literal (codes "none\n") bytes >>= λ word. Ok (None, word.1))
+    else (number_at greatest 10 bytes >>= λ number. Ok (Some number.0, number.1))

@@ -4,6 +4,7 @@ use Rattle.std.specs.List.{AllByRecursion}
 use Rattle.td_certificate.specs.declared.tree.Node.{Node}
 use Rattle.td_certificate.specs.declared.tree.Node.TheVariants as node
 use Rattle.td_certificate.specs.declared.certificate.Certificate.{Certificate}
+use Rattle.td_certificate.specs.declared.certificate.Claim.{Claim}
 use Rattle.td_certificate.specs.Questions.{Terms}
 use Rattle.td_certificate.specs.Trees.{has_edges, has_refuted}
 use Rattle.td_certificate.specs.Spelling.{AreTerms, HasSpelling, spelling}
@@ -17,6 +18,11 @@ IsShort (node.Bound domain bound) = bound < 10 ^ 15
 IsShort (node.Point time) = time < 10 ^ 15
 IsShort node.Empty = Unit {0}
 IsShort (node.Refuted refuted) = ⊥
+
+-- the moments of a claim are below 10 ^ 15
+abbrev pub IsShortClaim : Option Claim → Type 0
+IsShortClaim None = Unit {0}
+IsShortClaim (Some claim) = (claim.time < 10 ^ 15) × (claim.high < 10 ^ 15)
 
 -- the question names at most 10,000 outputs, and at most 5,000 conditions
 abbrev pub AreFew : Option (List ℕ) → Type 0
@@ -36,11 +42,11 @@ CanTell tree (Some terms) = AreTerms (Some terms) × HaveFew (Some terms) × (te
 -- A tree of at most 10,000,000 lines with numbers below 10 ^ 15, as a search gives, has a text
 -- within the limit.
 abbrev pub SearchedTextsFit : Type 0
-SearchedTextsFit = (c : Certificate) → HasSpelling c → HaveFew c.question.terms → c.time < 10 ^ 15 → c.high < 10 ^ 15 → AllByRecursion IsShort c.tree → length c.tree ≤ 10000000
+SearchedTextsFit = (c : Certificate) → HasSpelling c → HaveFew c.question.terms → IsShortClaim c.claim → AllByRecursion IsShort c.tree → length c.tree ≤ 10000000
     → IsWithinLimit (spelling c)
 
 -- A tree of one leaf whose steps have at most 268,000,000 bytes, as a search by refutation gives,
 -- has a text within the limit.
 abbrev pub RefutedTextsFit : Type 0
-RefutedTextsFit = (c : Certificate) (refuted : Refuted) → HasSpelling c → HaveFew c.question.terms → c.time < 10 ^ 15 → c.high < 10 ^ 15 → c.tree ≡ node.Refuted refuted ∷ []
+RefutedTextsFit = (c : Certificate) (refuted : Refuted) → HasSpelling c → HaveFew c.question.terms → IsShortClaim c.claim → c.tree ≡ node.Refuted refuted ∷ []
     → length (steps_text refuted.steps) ≤ 268000000 → IsWithinLimit (spelling c)

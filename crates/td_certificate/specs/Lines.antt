@@ -15,7 +15,7 @@ steps_read (Err stop) = []
 abbrev pub steps_in : List ℕ → List Step
 steps_in lines = steps_read (refuted_at (lines ++ codes "q 0\n"))
 
-abbrev pub refuted_by : List ℕ → ℕ → Refuted
+abbrev pub refuted_by : List ℕ → Option ℕ → Refuted
 refuted_by lines bound = record { steps = steps_in lines; bound = bound }
 
 -- the lines are those of steps

@@ -18,6 +18,7 @@ use Rattle.td_certificate.specs.declared.fields.Leaves.{Leaves}
 use Rattle.td_certificate.specs.declared.fields.Leaves.TheVariants as leaves
 use Rattle.td_certificate.specs.Trees.{sides}
 use Rattle.td_certificate.specs.declared.certificate.Certificate.{Certificate}
+use Rattle.td_certificate.specs.declared.certificate.Claim.{Claim}
 use Rattle.td_gates.specs.Delays.{Delays}
 use Rattle.td_certificate.specs.Questions.{Terms, Question, is_free, holds_none, all_at_once}
 use Rattle.td_domain.specs.Cubes.{weave}
@@ -26,8 +27,8 @@ use Rattle.td_certificate.specs.Spelling.{greatest, latest}
 use Rattle.td_refutation.specs.declared.conditions.NamedCondition.{NamedCondition}
 use Rattle.td_certificate.specs.StepReading.{numbers_at, refuted_at}
 use Rattle.td_certificate.specs.ConditionReading.{kept_at}
-pub use Rattle.td_certificate.specs.Fields.{Stop, Ends, Wrong, Reading, ◌>>=◌, Fails, Gives, byte_at, begins_with_zero, written_as, taken, char_at}
-unfoldable pub use Rattle.td_certificate.specs.Fields.{literal, digits_at, number_at, number_from, number_behind}
+pub use Rattle.td_certificate.specs.Fields.{Stop, Ends, Wrong, Reading, ◌>>=◌, Fails, Gives, byte_at, begins_with_zero, begins_none, written_as, taken, char_at}
+unfoldable pub use Rattle.td_certificate.specs.Fields.{literal, digits_at, number_at, number_from, number_behind, number_or_none}
 
 -- ---- characters
 
@@ -339,6 +340,15 @@ nodes_within here (suc count) (suc pending) bytes = do
 unfoldable pub nodes_at : Leaves → ℕ → List ℕ → Reading (List Node)
 nodes_at here pending bytes = nodes_within here (length bytes) pending bytes
 
+-- ---- the claim
+
+-- only a text of the fourth version can tell that no pair is admitted
+abbrev pub may_claim_none : Version → Bool
+may_claim_none First = false
+may_claim_none Second = false
+may_claim_none Third = false
+may_claim_none Fourth = true
+
 -- the line of the moment after which no admitted pair changes an output; before the fourth version it
 -- is the time
 unfoldable pub high_at : Version → ℕ → List ℕ → Reading ℕ
@@ -347,11 +357,35 @@ high_at Second time bytes = Ok (time, bytes)
 high_at Third time bytes = Ok (time, bytes)
 high_at Fourth time bytes = number_behind (codes "high ") greatest 10 bytes
 
-abbrev pub with_fields : ℕ → Question → ℕ → ℕ → List Bool → List Bool → List Node → Certificate
-with_fields gates question time high first second tree =
-    record { gates = gates; question = question; time = time; high = high; pair = record { first = first; second = second }; tree = tree }
+abbrev pub claim_of : ℕ → ℕ → List Bool → List Bool → Claim
+claim_of time high first second = record { time = time; high = high; pair = record { first = first; second = second } }
+
+-- the lines of a claim after that of its time
+unfoldable pub timed_at : Version → ℕ → ℕ → List ℕ → Reading Claim
+timed_at version inputs time bytes = do
+  high ← high_at version time bytes
+  first ← row_behind (codes "from ") bit_of inputs high.1
+  second ← row_behind (codes "to ") bit_of inputs first.1
+  Ok (claim_of time high.0 first.0 second.0, second.1)
+
+-- the lines after that of the time, which are there where it tells one
+unfoldable pub claim_behind : Version → ℕ → Option ℕ → List ℕ → Reading (Option Claim)
+claim_behind version inputs None bytes = Ok (None, bytes)
+claim_behind version inputs (Some time) bytes = do
+  claim ← timed_at version inputs time bytes
+  Ok (Some claim.0, claim.1)
+
+-- the lines of the claim
+unfoldable pub claim_at : Version → ℕ → List ℕ → Reading (Option Claim)
+claim_at version inputs bytes = do
+  word ← literal (codes "time ") bytes
+  time ← number_or_none (may_claim_none version) word.1
+  claim_behind version inputs time.0 time.1
 
 -- ---- the whole
+
+abbrev pub with_fields : ℕ → Question → Option Claim → List Node → Certificate
+with_fields gates question claim tree = record { gates = gates; question = question; claim = claim; tree = tree }
 
 -- the lines after the first, and the bytes after them
 unfoldable pub lines_at : Version → List ℕ → Reading Certificate
@@ -360,12 +394,9 @@ lines_at version bytes = do
   inputs ← number_from (has_inputs version) 4096 32 word.1
   gates ← number_at 200000 10 inputs.1
   question ← question_at version inputs.0 gates.1
-  time ← number_behind (codes "time ") greatest 10 question.1
-  high ← high_at version time.0 time.1
-  first ← row_behind (codes "from ") bit_of inputs.0 high.1
-  second ← row_behind (codes "to ") bit_of inputs.0 first.1
-  tree ← nodes_at (leaves_in version) 1 second.1
-  Ok (with_fields gates.0 question.0 time.0 high.0 first.0 second.0 tree.0, tree.1)
+  claim ← claim_at version inputs.0 question.1
+  tree ← nodes_at (leaves_in version) 1 claim.1
+  Ok (with_fields gates.0 question.0 claim.0 tree.0, tree.1)
 
 -- a certificate, and the bytes after it
 unfoldable pub certificate_at : List ℕ → Reading Certificate

@@ -9,6 +9,7 @@ use Rattle.td_certificate.specs.declared.tree.Node.TheVariants as node
 use Rattle.td_certificate.specs.declared.question.Version.{Version}
 use Rattle.td_certificate.specs.declared.question.Version.TheVariants.{First, Second, Third, Fourth}
 use Rattle.td_certificate.specs.declared.certificate.Certificate.{Certificate}
+use Rattle.td_certificate.specs.declared.certificate.Claim.{Claim}
 use Rattle.td_certificate.specs.Questions.{Terms, Question, inputs_of, version_of, version_number}
 use Rattle.td_certificate.specs.Trees.{IsTree, is_of_edges}
 use Rattle.td_certificate.specs.Steps.{IsRefutedText}
@@ -83,8 +84,8 @@ version_line version = codes "tdelay-cert " ++ decimal (version_number version)
 abbrev pub circuit_line : Certificate → List ℕ
 circuit_line c = codes "circuit " ++ decimal (inputs c) ++ codes " " ++ decimal c.gates
 
-abbrev pub time_line : Certificate → List ℕ
-time_line c = codes "time " ++ decimal c.time
+abbrev pub time_line : Claim → List ℕ
+time_line claim = codes "time " ++ decimal claim.time
 
 -- in the fourth version a line tells the moment after which no admitted pair changes an output
 abbrev pub high_lines : Version → ℕ → List (List ℕ)
@@ -93,17 +94,22 @@ high_lines Second high = []
 high_lines Third high = []
 high_lines Fourth high = (codes "high " ++ decimal high) ∷ []
 
-abbrev pub from_line : Certificate → List ℕ
-from_line c = codes "from " ++ bits c.pair.first
+abbrev pub from_line : Claim → List ℕ
+from_line claim = codes "from " ++ bits claim.pair.first
 
-abbrev pub to_line : Certificate → List ℕ
-to_line c = codes "to " ++ bits c.pair.second
+abbrev pub to_line : Claim → List ℕ
+to_line claim = codes "to " ++ bits claim.pair.second
+
+-- the lines of a claim, or the one that tells that no pair is admitted
+abbrev pub claim_lines : Version → Option Claim → List (List ℕ)
+claim_lines version None = codes "time none" ∷ []
+claim_lines version (Some claim) = time_line claim ∷ (high_lines version claim.high ++ from_line claim ∷ to_line claim ∷ [])
 
 -- the lines before the tree
 abbrev pub head_lines : Certificate → List (List ℕ)
 head_lines c =
     version_line (version_in c) ∷ circuit_line c
-    ∷ (question_lines (version_in c) c.question ++ time_line c ∷ (high_lines (version_in c) c.high ++ from_line c ∷ to_line c ∷ []))
+    ∷ (question_lines (version_in c) c.question ++ claim_lines (version_in c) c.claim)
 
 -- a line and its newline
 abbrev pub ended : List ℕ → List ℕ
@@ -142,6 +148,18 @@ IsHigh Second time high = high ≡ time
 IsHigh Third time high = high ≡ time
 IsHigh Fourth time high = high ≤ greatest
 
+-- moments within their limits, and a bit of each vector for each of this number of inputs
+pub record IsClaimText (version : Version) (count : ℕ) (claim : Claim) : Type 0 where
+  pub time : claim.time ≤ greatest
+  pub high : IsHigh version claim.time claim.high
+  pub first : length claim.pair.first ≡ count
+  pub second : length claim.pair.second ≡ count
+
+-- only a text of the fourth version can tell that no pair is admitted
+abbrev pub MayClaim : Version → ℕ → Option Claim → Type 0
+MayClaim version count None = version ≡ Fourth
+MayClaim version count (Some claim) = IsClaimText version count claim
+
 -- numbers of outputs, at least one, each up to the greatest
 abbrev pub AreOutputs : Option (List ℕ) → Type 0
 AreOutputs None = Unit {0}
@@ -158,8 +176,8 @@ abbrev pub AreTerms : Option Terms → Type 0
 AreTerms None = Unit {0}
 AreTerms (Some terms) = IsInRange terms.default × AreOutputs terms.outputs × AreConditions terms.keep
 
--- its numbers are within their limits, there are two pins, a moment and a bit of each vector for
--- each input, and its nodes are one tree's
+-- its numbers are within their limits, there are two pins, a moment and a bit of each vector that
+-- it claims for each input, and its nodes are one tree's
 pub record HasSpelling (c : Certificate) : Type 0 where
   pub inputs : inputs_of c.question ≤ 4096
   pub gates : c.gates ≤ 200000
@@ -168,10 +186,7 @@ pub record HasSpelling (c : Certificate) : Type 0 where
   pub count : length c.question.moments ≡ inputs_of c.question
   pub moments : AllByRecursion (λ moment. moment ≤ latest) c.question.moments
   pub terms : AreTerms c.question.terms
-  pub time : c.time ≤ greatest
-  pub high : IsHigh (version_in c) c.time c.high
-  pub first : length c.pair.first ≡ inputs_of c.question
-  pub second : length c.pair.second ≡ inputs_of c.question
+  pub claim : MayClaim (version_in c) (inputs_of c.question) c.claim
   pub nodes : AllByRecursion (IsNode (version_in c)) c.tree
   pub tree : IsTree c.tree
 

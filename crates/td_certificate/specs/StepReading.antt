@@ -1,5 +1,5 @@
 -- Reading steps and the bound that they are to show.
-use Rattle.std.specs.Prelude.{ℕ, zero, suc, ◌+◌, ◌-◌, ◌*◌, Bool, true, false, List, [], ◌∷◌, length, codes, Option, Ok, Err, nat_lt, nat_le, ◌==◌, if◌then◌else◌}
+use Rattle.std.specs.Prelude.{ℕ, zero, suc, ◌+◌, ◌-◌, ◌*◌, Bool, true, false, List, [], ◌∷◌, length, codes, Option, None, Ok, Err, nat_lt, nat_le, ◌==◌, if◌then◌else◌}
 use Rattle.std.specs.Char.{is_ascii_digit}
 use Rattle.td_refutation.specs.Whole.{Step}
 use Rattle.td_refutation.specs.declared.kind.StepKind.{StepKind}
@@ -8,7 +8,7 @@ use Rattle.td_certificate.specs.declared.fields.Reason.TheVariants.{Syntax, Numb
 use Rattle.td_certificate.specs.declared.steps.Line as code_line
 use Rattle.td_certificate.specs.declared.steps.Line.TheVariants as line
 use Rattle.td_certificate.specs.Steps.{Refuted, kind_byte, greatest}
-use Rattle.td_certificate.specs.Fields.{Ends, Wrong, Reading, ◌>>=◌, written_as, char_at, number_behind}
+use Rattle.td_certificate.specs.Fields.{Ends, Wrong, Reading, ◌>>=◌, written_as, char_at, literal, number_or_none}
 
 -- a value that ends a list, or one that others follow
 abbrev pub ended_by : {A B : Type 0} → (A → B) → (A → B → B) → Bool → A → List ℕ → Reading B → Reading B
@@ -75,17 +75,18 @@ line_tags =
     StepTag First ∷ StepTag Last ∷ StepTag Span ∷ StepTag Flips ∷ StepTag Gate ∷ StepTag Table
     ∷ StepTag Net ∷ StepTag Pairs ∷ StepTag Keep ∷ StepTag Lemma ∷ StepTag End ∷ StepTag Again ∷ BoundEndTag ∷ []
 
--- a line in a leaf that is refuted: a step, or the bound
+-- a line in a leaf that is refuted: a step, or the bound, if there is one
 pub data RefutedLine : Type 0 where
   StepLine : Step → RefutedLine
-  BoundLine : ℕ → RefutedLine
+  BoundLine : Option ℕ → RefutedLine
 
 unfoldable pub behind_line_tag : LineTag → List ℕ → Reading RefutedLine
 behind_line_tag (StepTag kind) bytes = do
   numbers ← spaced_at bytes
   Ok (StepLine (record { kind = kind; numbers = numbers.0 }), numbers.1)
 behind_line_tag BoundEndTag bytes = do
-  bound ← number_behind (codes " ") greatest 10 bytes
+  space ← literal (codes " ") bytes
+  bound ← number_or_none true space.1
   Ok (BoundLine bound.0, bound.1)
 
 unfoldable pub refuted_line_at : List ℕ → Reading RefutedLine
@@ -99,7 +100,7 @@ is_bound_line (BoundLine bound) = true
 
 -- the bound alone, for a line that has it
 abbrev pub bound_alone : RefutedLine → Refuted
-bound_alone (StepLine step) = record { steps = []; bound = 0 }
+bound_alone (StepLine step) = record { steps = []; bound = None }
 bound_alone (BoundLine bound) = record { steps = []; bound = bound }
 
 -- a step more before others

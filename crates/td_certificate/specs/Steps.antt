@@ -1,5 +1,5 @@
 -- Steps of a refutation, those that have variables among them, and the lines that spell them.
-use Rattle.std.specs.Prelude.{ℕ, ◌≤◌, ◌^◌, List, [], ◌∷◌, ◌++◌, codes, decimal}
+use Rattle.std.specs.Prelude.{ℕ, ◌≤◌, ◌^◌, List, [], ◌∷◌, ◌++◌, codes, decimal, Option, Some, None}
 use Rattle.std.specs.List.{flat_map, AllByRecursion}
 use Rattle.td_refutation.specs.declared.kind.StepKind.{StepKind}
 use Rattle.td_refutation.specs.Whole.{Step}
@@ -40,15 +40,25 @@ steps_text steps = flat_map step_text steps
 abbrev pub IsStep : Step → Type 0
 IsStep step = AllByRecursion (λ number. number ≤ 10 ^ 18) step.numbers
 
--- a bound that steps are to show
+-- a number, or `none`
+abbrev pub or_none : Option ℕ → List ℕ
+or_none None = codes "none"
+or_none (Some number) = decimal number
+
+-- a bound that steps are to show; none where they are to show that no admitted pair lies in the cube
 pub record Refuted : Type 0 where
   pub steps : List Step
-  pub bound : ℕ
+  pub bound : Option ℕ
 
 -- the lines of a leaf that is refuted, but for the last newline
 abbrev pub refuted_line : Refuted → List ℕ
-refuted_line refuted = codes "x\n" ++ (steps_text refuted.steps ++ (codes "q " ++ decimal refuted.bound))
+refuted_line refuted = codes "x\n" ++ (steps_text refuted.steps ++ (codes "q " ++ or_none refuted.bound))
+
+-- at most the greatest of a certificate, if it is a number
+abbrev pub IsBoundText : Option ℕ → Type 0
+IsBoundText None = Unit {0}
+IsBoundText (Some bound) = bound ≤ 10 ^ 18
 
 pub record IsRefutedText (refuted : Refuted) : Type 0 where
   pub steps : AllByRecursion IsStep refuted.steps
-  pub bound : refuted.bound ≤ 10 ^ 18
+  pub bound : IsBoundText refuted.bound

@@ -7,19 +7,25 @@ use crate::question::{Question, Version};
 use crate::tree::Tree;
 use td_domain::Pair;
 
-/// What a search claims: the circuit's number of gates, what was asked of it, an admitted pair of
-/// vectors with its delay, a moment after which no admitted pair changes an output, and the tree of
-/// cubes that shows that none does. Where the two moments are one, it is the worst delay. Moments
-/// are in steps.
+/// That an admitted pair of vectors has this delay, and that no admitted pair changes an output
+/// after another moment. Where the two moments are one, it is the worst delay. Moments are in
+/// steps.
 #[derive(Debug, Drop)]
-pub struct Certificate {
-    pub gates: u32,
-    pub question: Question,
+pub struct Claim {
     /// The pair's delay.
     pub time: u64,
     /// After this moment no admitted pair changes an output.
     pub high: u64,
     pub pair: Pair,
+}
+
+/// What a search claims: the circuit's number of gates, what was asked of it, the claim, or none
+/// where no pair is admitted, and the tree of cubes that shows it.
+#[derive(Debug, Drop)]
+pub struct Certificate {
+    pub gates: u32,
+    pub question: Question,
+    pub claim: Option<Claim>,
     pub tree: Tree,
 }
 

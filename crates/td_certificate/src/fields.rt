@@ -2,7 +2,7 @@
 
 ghost use Rattle.std.specs.Prelude.{◌≡◌, ◌≤◌, ◌<◌, ◌+◌, ◌^◌, ◌==◌, codes, IfOk};
 ghost use Rattle.td_certificate.specs.declared.fields.Stop.TheVariants.{OutOfMemory};
-ghost use Rattle.td_certificate.specs.Reading.{Gives, byte_at, literal, digits_at, number_at, number_from, begins_with_zero, domain_of, letter_at, number_behind, behind_tag, BoundTag, PointTag, EmptyTag, RefutedTag, node_at, leaves_in};
+ghost use Rattle.td_certificate.specs.Reading.{Gives, byte_at, literal, digits_at, number_at, number_from, begins_with_zero, begins_none, number_or_none, domain_of, letter_at, number_behind, behind_tag, BoundTag, PointTag, EmptyTag, RefutedTag, node_at, leaves_in};
 
 use crate::question::Version;
 use crate::refuting::refuted_lines;
@@ -202,6 +202,26 @@ pub fn number_behind<'a>(
 {
     let rest = literal(word, text)?;
     number(most, close, rest)
+}
+
+/// Whether `none` begins here, where it may stand in a number's place.
+fn begins_none(may: bool, text: &[u8]) -> bool
+    ensures { result ≡ begins_none may text.now }
+{
+    may && matches!(text, [b'n', ..])
+}
+
+/// Takes a number and the newline, or `none` where it may stand in a number's place.
+#[tactic(auto, unfolding(crate::specs::Fields::number_or_none))]
+pub fn number_or_none(may: bool, text: &[u8]) -> Result<(Option<u64>, &[u8]), Stop<'_>>
+    ensures { Gives (λ x. (x.0, x.1.now)) result (number_or_none may text.now) }
+{
+    if begins_none(may, text) {
+        let rest = literal(b"none\n", text)?;
+        return Ok((None, rest));
+    }
+    let (number, rest) = number(GREATEST, b'\n', text)?;
+    Ok((Some(number), rest))
 }
 
 /// Takes a space, a number and the newline.

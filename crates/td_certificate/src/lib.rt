@@ -17,7 +17,7 @@ mod steps;
 mod tree;
 mod writing;
 
-pub use certificate::Certificate;
+pub use certificate::{Certificate, Claim};
 pub use fault::{CertFault, CertFaultKind, WriteFault};
 pub use plain::push_reported;
 pub use question::{Question, Terms, Version};

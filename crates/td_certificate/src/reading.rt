@@ -1,19 +1,20 @@
 //! Reading a certificate's text.
 
 ghost use Rattle.std.specs.Prelude.{◌≡◌, ◌≤◌, ◌<◌, ◌+◌, ◌-◌, ◌^◌, ℕ, take, length, Some, IfOk, IfErr};
-ghost use Rattle.td_certificate.specs.Reading.{Gives, begins_number, front_number, IsUpTo, is_version, version_reason, digit_at, version_at, has_inputs, leaves_in, high_at, nodes_at, lines_at, certificate_at};
+ghost use Rattle.td_certificate.specs.Reading.{Gives, begins_number, front_number, IsUpTo, is_version, version_reason, digit_at, version_at, has_inputs, leaves_in, may_claim_none, high_at, timed_at, claim_behind, claim_at, nodes_at, lines_at, certificate_at};
 ghost use Rattle.td_certificate.specs.Spelling.{Spells};
-ghost use Rattle.td_certificate.specs.Tails.{claim_at, tree_at, answer_at};
+ghost use Rattle.td_certificate.specs.Tails.{answer_at};
 ghost use Rattle.td_certificate.specs.declared.certificate.Certificate.{Certificate as Contents};
 ghost use Rattle.td_certificate.specs.declared.fault.CertFaultKind.{CertFaultKind as Kind};
 ghost use Rattle.td_certificate.specs.Faults.{IsFault, kind_of, kind_in, IsWithinLimit, IsFront, HasMore, IsReadAs, IsReported, line_behind};
 
 use crate::asking::question;
-use crate::certificate::Certificate;
+use crate::certificate::{Certificate, Claim};
 use crate::characters::{Bits, row};
 use crate::fault::{CertFault, CertFaultKind};
 use crate::fields::{
     GREATEST, Leaves, Reason, Stop, literal, node, number, number_behind, number_from,
+    number_or_none,
 };
 use crate::question::{Question, Version};
 use crate::tree::Tree;
@@ -139,15 +140,18 @@ fn has_inputs(version: Version) -> bool
     }
 }
 
-/// The moments that a certificate tells: the pair's delay, and the one after which no admitted pair
-/// changes an output.
-#[derive(Clone, Copy, Drop)]
-struct Figures {
-    time: u64,
-    high: u64,
+/// Whether a text of this version may claim that no pair is admitted.
+fn may_claim_none(version: Version) -> bool
+    ensures { result ≡ may_claim_none version }
+{
+    match version {
+        Version::First | Version::Second | Version::Third => false,
+        Version::Fourth => true,
+    }
 }
 
-/// Takes the line of the latter moment, where a text of this version has it.
+/// Takes the line of the moment after which no admitted pair changes an output, where a text of
+/// this version has it.
 #[tactic(auto, unfolding(crate::specs::Reading::high_at))]
 fn high(version: Version, time: u64, text: &[u8]) -> Result<(u64, &[u8]), Stop<'_>>
     ensures { Gives (λ x. (x.0, x.1.now)) result (high_at version time text.now) }
@@ -158,37 +162,57 @@ fn high(version: Version, time: u64, text: &[u8]) -> Result<(u64, &[u8]), Stop<'
     }
 }
 
-/// Takes the lines of both.
-fn claim(version: Version, text: &[u8]) -> Result<(Figures, &[u8]), Stop<'_>>
-    ensures { Gives (λ x. ((x.0.time, x.0.high), x.1.now)) result (claim_at version text.now) }
-{
-    let (time, rest) = number_behind(b"time ", GREATEST, b'\n', text)?;
-    let (high, rest) = high(version, time, rest)?;
-    Ok((Figures { time, high }, rest))
-}
-
-/// Takes the tree, the last part of a certificate.
-fn closed<'a>(
+/// Takes the lines of a claim after that of its time.
+#[tactic(auto, unfolding(crate::specs::Reading::timed_at))]
+fn timed(
     alloc: Global,
     version: Version,
-    gates: u32,
-    question: Question,
-    moments: Figures,
-    pair: Pair,
-    text: &'a [u8],
-) -> Result<(Certificate, &'a [u8]), Stop<'a>>
-    ensures { Gives (λ x. (x.0, x.1.now)) result (tree_at version gates question moments.time moments.high pair.first pair.second text.now) }
+    inputs: u32,
+    time: u64,
+    text: &[u8],
+) -> Result<(Claim, &[u8]), Stop<'_>>
+    ensures { Gives (λ x. (x.0, x.1.now)) result (timed_at version inputs time text.now) }
 {
-    let (tree, rest) = tree(alloc, version, text)?;
-    let certificate = Certificate {
-        gates,
-        question,
-        time: moments.time,
-        high: moments.high,
-        pair,
-        tree,
-    };
-    Ok((certificate, rest))
+    let (high, rest) = high(version, time, text)?;
+    let (first, rest) = row::<Bits>(alloc, b"from ", inputs, rest)?;
+    let (second, rest) = row::<Bits>(alloc, b"to ", inputs, rest)?;
+    let pair = Pair::new(first, second);
+    Ok((Claim { time, high, pair }, rest))
+}
+
+/// Takes the lines after that of the time, which are there where it tells one.
+#[tactic(auto, unfolding(crate::specs::Reading::claim_behind))]
+fn behind_time(
+    alloc: Global,
+    version: Version,
+    inputs: u32,
+    time: Option<u64>,
+    text: &[u8],
+) -> Result<(Option<Claim>, &[u8]), Stop<'_>>
+    ensures { Gives (λ x. (x.0, x.1.now)) result (claim_behind version inputs time text.now) }
+{
+    match time {
+        None => Ok((None, text)),
+        Some(time) => {
+            let (claim, rest) = timed(alloc, version, inputs, time, text)?;
+            Ok((Some(claim), rest))
+        }
+    }
+}
+
+/// Takes the lines of the claim.
+#[tactic(auto, unfolding(crate::specs::Reading::claim_at))]
+fn claim(
+    alloc: Global,
+    version: Version,
+    inputs: u32,
+    text: &[u8],
+) -> Result<(Option<Claim>, &[u8]), Stop<'_>>
+    ensures { Gives (λ x. (x.0, x.1.now)) result (claim_at version inputs text.now) }
+{
+    let rest = literal(b"time ", text)?;
+    let (time, rest) = number_or_none(may_claim_none(version), rest)?;
+    behind_time(alloc, version, inputs, time, rest)
 }
 
 /// Takes the lines after those of the question.
@@ -202,11 +226,15 @@ fn answered<'a>(
 ) -> Result<(Certificate, &'a [u8]), Stop<'a>>
     ensures { Gives (λ x. (x.0, x.1.now)) result (answer_at version inputs gates question text.now) }
 {
-    let (moments, rest) = claim(version, text)?;
-    let (first, rest) = row::<Bits>(alloc, b"from ", inputs, rest)?;
-    let (second, rest) = row::<Bits>(alloc, b"to ", inputs, rest)?;
-    let pair = Pair::new(first, second);
-    closed(alloc, version, gates, question, moments, pair, rest)
+    let (claim, rest) = claim(alloc, version, inputs, text)?;
+    let (tree, rest) = tree(alloc, version, rest)?;
+    let certificate = Certificate {
+        gates,
+        question,
+        claim,
+        tree,
+    };
+    Ok((certificate, rest))
 }
 
 /// Takes the lines after the first.

@@ -4,7 +4,7 @@ ghost use Rattle.std.specs.Prelude.{◌≡◌, ◌<◌, ◌≤◌, ◌^◌, leng
 ghost use Rattle.td_certificate.specs.Fields.{Gives};
 ghost use Rattle.td_certificate.specs.StepReading.{refuted_at};
 ghost use Rattle.td_refutation.specs.Whole.{step_of};
-ghost use Rattle.td_certificate.specs.Steps.{steps_text, IsRefutedText};
+ghost use Rattle.td_certificate.specs.Steps.{steps_text, IsBoundText, IsRefutedText};
 ghost use Rattle.td_certificate.specs.Lines.{refuted_by, AreLines, IsNext};
 
 use crate::fields::Stop;
@@ -18,11 +18,11 @@ use td_refutation::{Step, StepKind};
 #[derive(Debug, Drop)]
 struct Inside {
     lines: Vec<u8>,
-    bound: u64,
+    bound: Option<u64>,
 }
 
-/// A bound that steps are to show. The steps are kept as the text of their lines, which is the
-/// smallest form.
+/// A bound that steps are to show, or that no admitted pair lies in the cube. The steps are kept as
+/// the text of their lines, which is the smallest form.
 #[derive(Debug, Drop)]
 pub struct Refuted {
     inside: Box<Inside>,
@@ -41,7 +41,7 @@ impl Model for Refuted {
 
 impl Refuted {
     /// The bound that the steps of these lines are to show.
-    fn new(alloc: Global, lines: &[u8], bound: u64) -> Result<Refuted, AllocError>
+    fn new(alloc: Global, lines: &[u8], bound: Option<u64>) -> Result<Refuted, AllocError>
         requires { AreLines lines.now }
         ensures { IfOk result (λ refuted. refuted ≡ refuted_by lines.now bound) }
     {
@@ -50,14 +50,14 @@ impl Refuted {
         Ok(Refuted { inside })
     }
 
-    /// The bound that these steps are to show; none where a number of theirs is above 10^18. The
-    /// error is out of memory.
+    /// What these steps are to show, a bound, or that no admitted pair lies in the cube; none where
+    /// a number of theirs is above 10^18. The error is out of memory.
     pub fn of_steps(
         alloc: Global,
         steps: &[Step],
-        bound: u64,
+        bound: Option<u64>,
     ) -> Result<Option<Refuted>, AllocError>
-        requires { bound ≤ 10 ^ 18 }
+        requires { IsBoundText bound }
         ensures is { IfOk result (λ answer. IfSome answer (λ refuted. refuted ≡ record { steps = map step_of steps.now; bound = bound })) }
         ensures spelled { IfOk result (λ answer. IfSome answer IsRefutedText) }
     {
@@ -75,8 +75,9 @@ impl Refuted {
         self.inside.lines.len()
     }
 
-    /// The bound, in steps of time.
-    pub fn bound(&self) -> u64
+    /// The bound, in steps of time; none where the steps are to show that no admitted pair lies in
+    /// the cube.
+    pub fn bound(&self) -> Option<u64>
         ensures { result ≡ self.now.bound }
     {
         self.inside.bound

@@ -4,14 +4,15 @@ ghost use Rattle.std.specs.Prelude.{◌≡◌, ◌≤◌, ◌^◌, [], IfOk};
 ghost use Rattle.td_certificate.specs.Fields.{Gives};
 ghost use Rattle.td_certificate.specs.StepReading.{open_digits_at, open_number_at, numbers_at, spaced_at, kind_of_byte, line_of, refuted_line_at};
 
-use crate::fields::{GREATEST, Reason, Stop, first_byte, last_number};
+use crate::fields::{GREATEST, Reason, Stop, first_byte, literal, number_or_none};
 use td_refutation::StepKind;
 
-/// A line in a leaf that is refuted: a step of this kind, or the bound that the steps are to show.
+/// A line in a leaf that is refuted: a step of this kind, or the bound that the steps are to show,
+/// none where they are to show that no admitted pair lies in the cube.
 #[derive(Clone, Copy, Drop)]
 pub enum Line {
     Step(StepKind),
-    Bound(u64),
+    Bound(Option<u64>),
 }
 
 /// Takes a number without leading zeros and the byte after it, a newline or a space. Answers
@@ -108,7 +109,8 @@ pub fn line_at<'a>(text: &'a [u8], numbers: &mut Vec<u64>) -> Result<(Line, &'a 
     match text {
         [] => Err(Stop::Ends),
         [b'q', rest @ ..] => {
-            let (bound, rest) = last_number(rest)?;
+            let rest = literal(b" ", rest)?;
+            let (bound, rest) = number_or_none(true, rest)?;
             Ok((Line::Bound(bound), rest))
         }
         [letter, rest @ ..] => match kind_of(*letter) {

@@ -33,7 +33,8 @@ impl BoundedBy {
 
 /// A node of a tree: a split at a position of its cube, a leaf with a domain's bound of its cube, a
 /// leaf of one pair with that pair's delay, a leaf in whose cube no admitted pair lies, or a leaf
-/// with a bound that steps show. Bounds and delays are in steps.
+/// of which steps show a bound, or that no admitted pair lies in its cube. Bounds and delays are in
+/// steps.
 #[derive(Debug, Drop)]
 pub enum Node {
     Split(u64),

@@ -1,16 +1,16 @@
 //! Writing a certificate's text.
 
 ghost use Rattle.std.specs.Char.{encode_utf8};
-ghost use Rattle.std.specs.Prelude.{◌≡◌, false, ◌++◌, ◌∷◌, [], if◌then◌else◌, map, codes, OnOk, OnErr, IfOk, IfErr, string_bytes};
+ghost use Rattle.std.specs.Prelude.{◌≡◌, false, ◌++◌, ◌∷◌, [], if◌then◌else◌, map, codes, Some, OnOk, OnErr, IfOk, IfErr, string_bytes};
 ghost use Rattle.td_text.specs.Output.{Sent, SentTo, SentFront, Failed, one_more};
 ghost use Rattle.td_certificate.specs.declared.question.Version.TheVariants as of_version;
-ghost use Rattle.td_certificate.specs.Spelling.{fields_of, field_line, default_line, output_line, terms_of, ended, question_text, high_lines, head_lines, text_of, HasSpelling, spelling};
-ghost use Rattle.td_certificate.specs.Steps.{refuted_line};
+ghost use Rattle.td_certificate.specs.Spelling.{fields_of, field_line, default_line, output_line, terms_of, ended, question_text, high_lines, claim_lines, head_lines, text_of, HasSpelling, spelling};
+ghost use Rattle.td_certificate.specs.Steps.{or_none, refuted_line};
 ghost use Rattle.td_certificate.specs.Trees.{is_refuted};
 ghost use Rattle.td_certificate.specs.Sending.{StopsIn};
 ghost use Rattle.td_certificate.specs.Text.{row, bits, trit, first_trits, second_trits, hold, numbers, level_byte, form_text, behind_condition, conditions, node_line};
 
-use crate::certificate::Certificate;
+use crate::certificate::{Certificate, Claim};
 use crate::fault::WriteFault;
 use crate::question::{Question, Terms, Version};
 use crate::refuting::Refuted;
@@ -245,6 +245,35 @@ fn push_high(text: &mut String, version: Version, high: u64) -> Result<(), Alloc
     }
 }
 
+/// Puts the lines of a claim at the end, as a text of this version has them.
+fn push_claim(text: &mut String, version: Version, claim: &Claim) -> Result<(), AllocError>
+    ensures { OnOk result (string_bytes text.new ≡ string_bytes text.old ++ text_of (claim_lines version (Some claim.now))) }
+{
+    let time = claim.time;
+    writeln!(text, "time {time}")?;
+    push_high(text, version, claim.high)?;
+    text.push_str("from ")?;
+    push_bits(text, claim.pair.first())?;
+    text.push_str("\nto ")?;
+    push_bits(text, claim.pair.second())?;
+    text.push_str("\n")?;
+    Ok(())
+}
+
+/// Puts the lines of what a certificate claims at the end, as a text of this version has them.
+fn push_claimed(
+    text: &mut String,
+    version: Version,
+    claim: &Option<Claim>,
+) -> Result<(), AllocError>
+    ensures { OnOk result (string_bytes text.new ≡ string_bytes text.old ++ text_of (claim_lines version claim.now)) }
+{
+    match claim {
+        None => text.push_str("time none\n"),
+        Some(claim) => push_claim(text, version, claim),
+    }
+}
+
 /// The lines before the tree.
 fn head(alloc: Global, certificate: &Certificate) -> Result<String, AllocError>
     ensures { IfOk result (λ text. string_bytes text ≡ text_of (head_lines certificate.now)) }
@@ -253,16 +282,9 @@ fn head(alloc: Global, certificate: &Certificate) -> Result<String, AllocError>
     let number = version.number();
     let inputs = certificate.question.inputs();
     let gates = certificate.gates;
-    let time = certificate.time;
     let mut text = format!(in alloc; "tdelay-cert {number}\ncircuit {inputs} {gates}\n")?;
     push_question(&mut text, version, &certificate.question)?;
-    writeln!(text, "time {time}")?;
-    push_high(&mut text, version, certificate.high)?;
-    text.push_str("from ")?;
-    push_bits(&mut text, certificate.pair.first())?;
-    text.push_str("\nto ")?;
-    push_bits(&mut text, certificate.pair.second())?;
-    text.push_str("\n")?;
+    push_claimed(&mut text, version, &certificate.claim)?;
     Ok(text)
 }
 
@@ -292,6 +314,16 @@ fn make_room<W: Sink>(out: &mut W, batch: &mut String) -> Result<(), DeviceFault
     Ok(())
 }
 
+/// Puts the line of a bound that steps are to show at the end, or `none`.
+fn push_bound(text: &mut String, bound: Option<u64>) -> Result<(), AllocError>
+    ensures { OnOk result (string_bytes text.new ≡ string_bytes text.old ++ ended (codes "q " ++ or_none bound)) }
+{
+    match bound {
+        None => text.push_str("q none\n"),
+        Some(bound) => writeln!(text, "q {bound}"),
+    }
+}
+
 /// Writes the batch and the lines of a leaf that is refuted, but for that of its bound, which is
 /// left in the batch.
 fn write_refuted<W: Sink>(
@@ -306,8 +338,7 @@ fn write_refuted<W: Sink>(
     out.write_all(batch.as_bytes())?;
     batch.clear();
     out.write_all(refuted.lines())?;
-    let bound = refuted.bound();
-    writeln!(batch, "q {bound}")?;
+    push_bound(batch, refuted.bound())?;
     Ok(())
 }
 

@@ -11,7 +11,7 @@ use Rattle.td_certificate.specs.declared.tree.Node.TheVariants as node
 use Rattle.td_certificate.specs.declared.certificate.Certificate.{Certificate}
 use Rattle.td_certificate.specs.Questions.{asking_of}
 use Rattle.td_certificate.specs.Trees.{IsTree, sides, pending_after}
-use Rattle.td_certificate.specs.Accepts.{lines_in, IsGood}
+use Rattle.td_certificate.specs.Accepts.{lines_in, IsGood, high_of}
 use Rattle.td_certificate.specs.Cubes.{cubes_past}
 use Rattle.td_certificate.specs.Walks.{position_of, Line, lines_from}
 use Rattle.td_certificate.proofs.VectorCodes.{none_not, some_is}
@@ -140,13 +140,13 @@ passed c place cube next path ahead n walk at stands inside same =
     subst (λ (k : ℕ). IsWalked c k next ahead) one there
 
 pub good_more : (given : Setting) (c : Certificate) (place : ℕ) (cube : List Trit) (path : List ℕ) (n : Node) → IsWalked c place cube path
-    → slice_get c.tree place ≡ Some n → IsGood given (asking_of c.question) c.high (with_cube cube n)
-    → AllByRecursion (IsGood given (asking_of c.question) c.high) (take place (lines_in c)) → AllByRecursion (IsGood given (asking_of c.question) c.high) (take (place + 1) (lines_in c))
+    → slice_get c.tree place ≡ Some n → IsGood given (asking_of c.question) (high_of c.claim) (with_cube cube n)
+    → AllByRecursion (IsGood given (asking_of c.question) (high_of c.claim)) (take place (lines_in c)) → AllByRecursion (IsGood given (asking_of c.question) (high_of c.claim)) (take (place + 1) (lines_in c))
 good_more given c place cube path n walk at good all =
     let line = has_line c place cube path n walk at in
     let one : suc place ≡ place + 1 = omega arith in
-    subst (λ (k : ℕ). AllByRecursion (IsGood given (asking_of c.question) c.high) (take k (lines_in c))) one
-    (all_more (IsGood given (asking_of c.question) c.high) (lines_in c) place (with_cube cube n) all line.stands good)
+    subst (λ (k : ℕ). AllByRecursion (IsGood given (asking_of c.question) (high_of c.claim)) (take k (lines_in c))) one
+    (all_more (IsGood given (asking_of c.question) (high_of c.claim)) (lines_in c) place (with_cube cube n) all line.stands good)
 
 -- the lines of the text before a place, and those before the next one
 total_more : (lines : List Line) (place : ℕ) (line : Line) → slice_get lines place ≡ Some line → line_total (take (suc place) lines) ≡ line_total (take place lines) + line_count line.node
@@ -175,9 +175,9 @@ counted_within c place before count cube path n walk at so_far within =
     omega (arith, so_far, within, total_more (lines_in c) place (with_cube cube n) line.stands, total_take (lines_in c) (suc place))
 
 pub found_bad : (given : Setting) (c : Certificate) (place before at : ℕ) (cube : List Trit) (path : List ℕ) (n : Node) (flaw : Flaw)
-    → IsWalked c place cube path → slice_get c.tree place ≡ Some n → IsFlawed given (asking_of c.question) c.high (with_cube cube n) flaw at
+    → IsWalked c place cube path → slice_get c.tree place ≡ Some n → IsFlawed given (asking_of c.question) (high_of c.claim) (with_cube cube n) flaw at
     → before ≡ line_total (take place (lines_in c))
-    → AllByRecursion (IsGood given (asking_of c.question) c.high) (take place (lines_in c)) → IsBadAt given (asking_of c.question) c.high (lines_in c) flaw (before + at)
+    → AllByRecursion (IsGood given (asking_of c.question) (high_of c.claim)) (take place (lines_in c)) → IsBadAt given (asking_of c.question) (high_of c.claim) (lines_in c) flaw (before + at)
 found_bad given c place before at cube path n flaw walk stands has so_far all = record {
   place = place;
   bad = with_cube cube n;
@@ -192,11 +192,11 @@ no_lines [] = refl
 no_lines (cube ∷ cubes) = refl
 
 pub all_good : (given : Setting) (c : Certificate) (place : ℕ) (cube : List Trit) (path : List ℕ) → IsWalked c place cube path
-    → length c.tree ≤ place → AllByRecursion (IsGood given (asking_of c.question) c.high) (take place (lines_in c)) → AllByRecursion (IsGood given (asking_of c.question) c.high) (lines_in c)
+    → length c.tree ≤ place → AllByRecursion (IsGood given (asking_of c.question) (high_of c.claim)) (take place (lines_in c)) → AllByRecursion (IsGood given (asking_of c.question) (high_of c.claim)) (lines_in c)
 all_good given c place cube path walk over all =
     let none : drop place c.tree ≡ [] = drop_all place c.tree over in
     let end : drop place (lines_in c) ≡ [] = sym walk.walked ∙ ap (lines_from walk.cubes) none ∙ no_lines walk.cubes in
-    subst (AllByRecursion (IsGood given (asking_of c.question) c.high)) (take_whole (lines_in c) place end) all
+    subst (AllByRecursion (IsGood given (asking_of c.question) (high_of c.claim))) (take_whole (lines_in c) place end) all
 
 pub node_at : (nodes tree : List Node) (place : ℕ) (n : Node) → nodes ≡ tree → place < length nodes → n ≡ get_or nodes place n → slice_get tree place ≡ Some n
 node_at nodes tree place n same below is =

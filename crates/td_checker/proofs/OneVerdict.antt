@@ -12,20 +12,21 @@ use Rattle.td_certificate.specs.declared.certificate.Certificate.{Certificate}
 use Rattle.td_domain.specs.declared.cubes.Trit.{Trit}
 use Rattle.td_domain.specs.declared.cubes.Trit.TheVariants.{Zero, One}
 use Rattle.td_refutation.specs.declared.flaw.Flaw as step_flaw
-use Rattle.td_refutation.proofs.OneVerdict.{leaf_has_one_verdict}
+use Rattle.td_refutation.specs.Whole.{Step, IsBadStep}
+use Rattle.td_refutation.proofs.OneVerdict.{leaf_has_one_verdict, emptied_has_one_verdict}
 use Rattle.td_certificate.specs.declared.tree.Node.{Node}
 use Rattle.td_certificate.specs.declared.tree.Node.TheVariants as node
+use Rattle.td_certificate.specs.Steps.{Refuted}
 use Rattle.td_certificate.specs.Questions.{Terms, asking_of}
 use Rattle.td_certificate.specs.Cubes.{cubes_past}
 use Rattle.td_certificate.specs.Spelling.{head_lines}
 use Rattle.td_certificate.specs.Walks.{position_of, Line, lines_from}
-use Rattle.td_certificate.specs.Accepts.{lines_in, SplitsFree, IsOfOnePair, IsOfCube, IsGood, IsOfSize, setting_of, HasItsTime, Accepts}
-use Rattle.td_certificate.proofs.Acceptance.{cube_fits, vector_fits}
+use Rattle.td_certificate.specs.Accepts.{lines_in, SplitsFree, SaysNone, IsEnough, IsOfOnePair, Shows, IsOfCube, IsGood, IsOfSize, setting_of, high_of, HasItsTime, Accepts}
 use Rattle.td_certificate.proofs.Texts.{spells_once}
 use Rattle.td_certificate.proofs.VectorCodes.{none_not, some_is}
 use Rattle.td_checker.specs.declared.verdict.Verdict.{Verdict}
 use Rattle.td_checker.specs.declared.verdict.Verdict.TheVariants as verdict
-use Rattle.td_checker.specs.Verdicts.{Flaw, Misplaced, NotOnePair, WrongNumber, NotEmpty, AboveTime, BadStep, SaysEmpty, IsWrong, HasBadStep, HasFlaw, line_total, reported_at, IsGoodIn, HasAdmittedPair, IsFirstBad, AreTold, AreOther, IsVerdictOn, IsVerdict, OneVerdict}
+use Rattle.td_checker.specs.Verdicts.{Flaw, Misplaced, NotEmpty, NotOnePair, WrongNumber, AboveTime, BadStep, LeaveOpen, IsNotEmpty, AreAbove, IsWrong, HasBadStep, HasFlaw, line_total, reported_at, IsGoodIn, HasAdmittedPair, IsFirstBad, AreTold, AreOther, IsVerdictOn, IsVerdict, OneVerdict}
 use Rattle.td_checker.specs.Checks.{TextsHaveOneVerdict, told_by}
 
 -- the cube has two positions for each input
@@ -35,40 +36,94 @@ IsOfInputs given cube = length cube ≡ 2 * length given.netlist.inputs
 -- ---- lines
 
 -- a leaf's number is wrong only where it isn't so of its cube
+not_shown : {X : Type 0} (given : Setting) (asking : Asking) (cube : List Trit) (steps : List Step) (bound : Option ℕ) → IsOfInputs given cube
+    → AreAbove given asking cube steps bound → Shows given asking cube steps bound → X
+not_shown given asking cube steps None fits above shows = absurd above
+not_shown given asking cube steps (Some bound) fits above shows = absurd (leaf_has_one_verdict.refuted_or_above given asking cube steps bound fits shows above)
+
 not_so : {X : Type 0} (given : Setting) (asking : Asking) (cube : List Trit) (n : Node) → IsOfInputs given cube → IsWrong given asking cube n → IsOfCube given asking cube n → X
 not_so given asking cube (node.Split position) fits wrong is = absurd wrong
 not_so given asking cube (node.Bound domain bound) fits wrong is = absurd (wrong is)
 not_so given asking cube (node.Point time) fits wrong is = absurd (wrong is)
 not_so given asking cube node.Empty fits wrong is = absurd wrong
-not_so given asking cube (node.Refuted refuted) fits wrong is = absurd (leaf_has_one_verdict.refuted_or_above given asking cube refuted.steps refuted.bound fits is wrong)
+not_so given asking cube (node.Refuted refuted) fits wrong is = not_shown given asking cube refuted.steps refuted.bound fits wrong is
 
-not_empty : {X : Type 0} (given : Setting) (asking : Asking) (cube : List Trit) (n : Node) → IsWrong given asking cube n → SaysEmpty n → X
-not_empty given asking cube (node.Split position) wrong says = absurd says
-not_empty given asking cube (node.Bound domain bound) wrong says = absurd says
-not_empty given asking cube (node.Point time) wrong says = absurd says
-not_empty given asking cube node.Empty wrong says = absurd wrong
-not_empty given asking cube (node.Refuted refuted) wrong says = absurd says
+-- a leaf that has a number says too little where no pair is to be asked about
+no_number : {X : Type 0} (most : Option ℕ) (n : Node) → most ≡ None → IsEnough most n → (SaysNone n → X) → X
+no_number None n none enough f = f enough
+no_number (Some most) n none enough f = none_not most (sym none)
+
+open_shown : {X : Type 0} (given : Setting) (asking : Asking) (most : Option ℕ) (cube : List Trit) (refuted : Refuted) (bound : Option ℕ) → refuted.bound ≡ bound → IsOfInputs given cube
+    → LeaveOpen given asking most cube refuted.steps bound → IsEnough most (node.Refuted refuted) → Shows given asking cube refuted.steps bound → X
+open_shown given asking most cube refuted None is fits left enough shows = absurd (emptied_has_one_verdict.emptied_or_not given asking cube refuted.steps fits shows left)
+open_shown given asking most cube refuted (Some bound) is fits left enough shows =
+    no_number most (node.Refuted refuted) left.0 enough (λ none. none_not bound (sym none ∙ is))
+
+-- where a leaf leaves its cube open, what it says isn't so
+open_not : {X : Type 0} (given : Setting) (asking : Asking) (most : Option ℕ) (cube : List Trit) (n : Node) → IsOfInputs given cube → IsNotEmpty given asking most cube n → IsEnough most n
+    → IsOfCube given asking cube n → X
+open_not given asking most cube (node.Split position) fits left enough is = absurd left
+open_not given asking most cube (node.Bound domain bound) fits left enough is = no_number most (node.Bound domain bound) left enough (λ none. absurd none)
+open_not given asking most cube (node.Point time) fits left enough is = no_number most (node.Point time) left enough (λ none. absurd none)
+open_not given asking most cube node.Empty fits left enough is = absurd (left is)
+open_not given asking most cube (node.Refuted refuted) fits left enough is = open_shown given asking most cube refuted refuted.bound refl fits left enough is
+
+open_above : {X : Type 0} (given : Setting) (asking : Asking) (most : Option ℕ) (cube : List Trit) (refuted : Refuted) (bound : Option ℕ) → refuted.bound ≡ bound
+    → LeaveOpen given asking most cube refuted.steps bound → IsEnough most (node.Refuted refuted) → AreAbove given asking cube refuted.steps bound → X
+open_above given asking most cube refuted None is left enough above = absurd above
+open_above given asking most cube refuted (Some bound) is left enough above =
+    no_number most (node.Refuted refuted) left.0 enough (λ none. none_not bound (sym none ∙ is))
+
+open_wrong : {X : Type 0} (given : Setting) (asking : Asking) (most : Option ℕ) (cube : List Trit) (n : Node) → IsNotEmpty given asking most cube n → IsEnough most n
+    → IsWrong given asking cube n → X
+open_wrong given asking most cube (node.Split position) left enough wrong = absurd left
+open_wrong given asking most cube (node.Bound domain bound) left enough wrong = no_number most (node.Bound domain bound) left enough (λ none. absurd none)
+open_wrong given asking most cube (node.Point time) left enough wrong = no_number most (node.Point time) left enough (λ none. absurd none)
+open_wrong given asking most cube node.Empty left enough wrong = absurd wrong
+open_wrong given asking most cube (node.Refuted refuted) left enough wrong = open_above given asking most cube refuted refuted.bound refl left enough wrong
+
+open_pair : {X : Type 0} (given : Setting) (asking : Asking) (most : Option ℕ) (cube : List Trit) (n : Node) → IsNotEmpty given asking most cube n → IsEnough most n
+    → (¬ IsOfOnePair cube n) → X
+open_pair given asking most cube (node.Split position) left enough free = absurd left
+open_pair given asking most cube (node.Bound domain bound) left enough free = absurd (free tt)
+open_pair given asking most cube (node.Point time) left enough free = no_number most (node.Point time) left enough (λ none. absurd none)
+open_pair given asking most cube node.Empty left enough free = absurd (free tt)
+open_pair given asking most cube (node.Refuted refuted) left enough free = absurd (free tt)
 
 -- what holds of a leaf with a bad step, of which no other flaw is looked for
-record HasOnlySteps (given : Setting) (asking : Asking) (cube : List Trit) (n : Node) : Type 0 where
+record HasOnlySteps (given : Setting) (asking : Asking) (most : Option ℕ) (cube : List Trit) (n : Node) : Type 0 where
   splits : SplitsFree cube n
   one_pair : IsOfOnePair cube n
+  not_open : ¬ IsNotEmpty given asking most cube n
   not_wrong : ¬ IsWrong given asking cube n
   not_of_cube : ¬ IsOfCube given asking cube n
-  says_more : ¬ SaysEmpty n
 
-only_steps : (given : Setting) (asking : Asking) (cube : List Trit) (n : Node) (place : ℕ) (why : step_flaw.Flaw) → IsOfInputs given cube
-    → HasBadStep given asking cube n place why → HasOnlySteps given asking cube n
-only_steps given asking cube (node.Split position) place why fits is = absurd is
-only_steps given asking cube (node.Bound domain bound) place why fits is = absurd is
-only_steps given asking cube (node.Point time) place why fits is = absurd is
-only_steps given asking cube node.Empty place why fits is = absurd is
-only_steps given asking cube (node.Refuted refuted) place why fits is = record {
+module _ (given : Setting) (asking : Asking) (most : Option ℕ) (cube : List Trit) (steps : List Step) (place : ℕ) (why : step_flaw.Flaw) (fits : IsOfInputs given cube)
+    (is : IsBadStep given asking cube steps place why) where
+  bad_not_open : (bound : Option ℕ) → ¬ LeaveOpen given asking most cube steps bound
+  bad_not_open None = λ left. emptied_has_one_verdict.not_or_bad given asking cube steps place why fits left is
+  bad_not_open (Some bound) = λ left. emptied_has_one_verdict.good_or_bad given asking cube steps place why fits left.1 is
+
+  bad_not_above : (bound : Option ℕ) → ¬ AreAbove given asking cube steps bound
+  bad_not_above None = λ above. above
+  bad_not_above (Some bound) = λ above. leaf_has_one_verdict.above_or_bad given asking cube steps bound place why fits above is
+
+  bad_not_shown : (bound : Option ℕ) → ¬ Shows given asking cube steps bound
+  bad_not_shown None = λ shows. emptied_has_one_verdict.emptied_or_bad given asking cube steps place why fits shows is
+  bad_not_shown (Some bound) = λ shows. leaf_has_one_verdict.refuted_or_bad given asking cube steps bound place why fits shows is
+
+only_steps : (given : Setting) (asking : Asking) (most : Option ℕ) (cube : List Trit) (n : Node) (place : ℕ) (why : step_flaw.Flaw) → IsOfInputs given cube
+    → HasBadStep given asking cube n place why → HasOnlySteps given asking most cube n
+only_steps given asking most cube (node.Split position) place why fits is = absurd is
+only_steps given asking most cube (node.Bound domain bound) place why fits is = absurd is
+only_steps given asking most cube (node.Point time) place why fits is = absurd is
+only_steps given asking most cube node.Empty place why fits is = absurd is
+only_steps given asking most cube (node.Refuted refuted) place why fits is = record {
   splits = tt;
   one_pair = tt;
-  not_wrong = λ wrong. leaf_has_one_verdict.above_or_bad given asking cube refuted.steps refuted.bound place why fits wrong is;
-  not_of_cube = λ so. leaf_has_one_verdict.refuted_or_bad given asking cube refuted.steps refuted.bound place why fits so is;
-  says_more = λ says. says;
+  not_open = bad_not_open given asking most cube refuted.steps place why fits is refuted.bound;
+  not_wrong = bad_not_above given asking most cube refuted.steps place why fits is refuted.bound;
+  not_of_cube = bad_not_shown given asking most cube refuted.steps place why fits is refuted.bound;
 }
 
 same_step : (given : Setting) (asking : Asking) (cube : List Trit) (n : Node) (place other : ℕ) (why because : step_flaw.Flaw) → IsOfInputs given cube
@@ -81,66 +136,66 @@ same_step given asking cube (node.Refuted refuted) place other why because fits 
     leaf_has_one_verdict.one_bad_step given asking cube refuted.steps place other why because fits h k
 
 -- a bad step is the only flaw of its line
-step_only : (given : Setting) (asking : Asking) (most : ℕ) (line : Line) (place : ℕ) (why : step_flaw.Flaw) (that : Flaw) → IsOfInputs given line.cube
-    → HasOnlySteps given asking line.cube line.node → HasBadStep given asking line.cube line.node place why → HasFlaw given asking most that line → BadStep place why ≡ that
+step_only : (given : Setting) (asking : Asking) (most : Option ℕ) (line : Line) (place : ℕ) (why : step_flaw.Flaw) (that : Flaw) → IsOfInputs given line.cube
+    → HasOnlySteps given asking most line.cube line.node → HasBadStep given asking line.cube line.node place why → HasFlaw given asking most that line → BadStep place why ≡ that
 step_only given asking most line place why Misplaced fits only h k = absurd (k only.splits)
-step_only given asking most line place why NotOnePair fits only h k = absurd (k.1 only.one_pair)
-step_only given asking most line place why WrongNumber fits only h k = absurd (only.not_wrong k.2)
-step_only given asking most line place why NotEmpty fits only h k = absurd (only.says_more k.3)
-step_only given asking most line place why AboveTime fits only h k = absurd (only.not_of_cube k.2)
+step_only given asking most line place why NotEmpty fits only h k = absurd (only.not_open k.1)
+step_only given asking most line place why NotOnePair fits only h k = absurd (k.2 only.one_pair)
+step_only given asking most line place why WrongNumber fits only h k = absurd (only.not_wrong k.3)
+step_only given asking most line place why AboveTime fits only h k = absurd (only.not_of_cube k.3)
 step_only given asking most line place why (BadStep other because) fits only h k =
     let same = same_step given asking line.cube line.node place other why because fits h k in
     ap (λ (p : ℕ). BadStep p why) same.0 ∙ ap (λ (w : step_flaw.Flaw). BadStep other w) same.1
 
-bad_step : (given : Setting) (asking : Asking) (most : ℕ) (line : Line) (place : ℕ) (why : step_flaw.Flaw) (that : Flaw) → IsOfInputs given line.cube
+bad_step : (given : Setting) (asking : Asking) (most : Option ℕ) (line : Line) (place : ℕ) (why : step_flaw.Flaw) (that : Flaw) → IsOfInputs given line.cube
     → HasBadStep given asking line.cube line.node place why → HasFlaw given asking most that line → BadStep place why ≡ that
 bad_step given asking most line place why that fits h k =
-    step_only given asking most line place why that fits (only_steps given asking line.cube line.node place why fits h) h k
+    step_only given asking most line place why that fits (only_steps given asking most line.cube line.node place why fits h) h k
 
-one_flaw : (given : Setting) (asking : Asking) (most : ℕ) (line : Line) (this that : Flaw) → IsOfInputs given line.cube → HasFlaw given asking most this line → HasFlaw given asking most that line
+one_flaw : (given : Setting) (asking : Asking) (most : Option ℕ) (line : Line) (this that : Flaw) → IsOfInputs given line.cube → HasFlaw given asking most this line → HasFlaw given asking most that line
     → this ≡ that
 one_flaw given asking most line Misplaced Misplaced p h k = refl
+one_flaw given asking most line Misplaced NotEmpty p h k = absurd (h k.0)
 one_flaw given asking most line Misplaced NotOnePair p h k = absurd (h k.0)
 one_flaw given asking most line Misplaced WrongNumber p h k = absurd (h k.0)
-one_flaw given asking most line Misplaced NotEmpty p h k = absurd (h k.0)
 one_flaw given asking most line Misplaced AboveTime p h k = absurd (h k.0)
 one_flaw given asking most line Misplaced (BadStep place why) p h k = sym (bad_step given asking most line place why Misplaced p k h)
+one_flaw given asking most line NotEmpty Misplaced p h k = absurd (k h.0)
+one_flaw given asking most line NotEmpty NotEmpty p h k = refl
+one_flaw given asking most line NotEmpty NotOnePair p h k = open_pair given asking most line.cube line.node h.1 k.1 k.2
+one_flaw given asking most line NotEmpty WrongNumber p h k = open_wrong given asking most line.cube line.node h.1 k.1 k.3
+one_flaw given asking most line NotEmpty AboveTime p h k = open_not given asking most line.cube line.node p h.1 k.1 k.3
+one_flaw given asking most line NotEmpty (BadStep place why) p h k = sym (bad_step given asking most line place why NotEmpty p k h)
 one_flaw given asking most line NotOnePair Misplaced p h k = absurd (k h.0)
+one_flaw given asking most line NotOnePair NotEmpty p h k = open_pair given asking most line.cube line.node k.1 h.1 h.2
 one_flaw given asking most line NotOnePair NotOnePair p h k = refl
-one_flaw given asking most line NotOnePair WrongNumber p h k = absurd (h.1 k.1)
-one_flaw given asking most line NotOnePair NotEmpty p h k = absurd (h.1 k.1)
-one_flaw given asking most line NotOnePair AboveTime p h k = absurd (h.1 k.1)
+one_flaw given asking most line NotOnePair WrongNumber p h k = absurd (h.2 k.2)
+one_flaw given asking most line NotOnePair AboveTime p h k = absurd (h.2 k.2)
 one_flaw given asking most line NotOnePair (BadStep place why) p h k = sym (bad_step given asking most line place why NotOnePair p k h)
 one_flaw given asking most line WrongNumber Misplaced p h k = absurd (k h.0)
-one_flaw given asking most line WrongNumber NotOnePair p h k = absurd (k.1 h.1)
+one_flaw given asking most line WrongNumber NotEmpty p h k = open_wrong given asking most line.cube line.node k.1 h.1 h.3
+one_flaw given asking most line WrongNumber NotOnePair p h k = absurd (k.2 h.2)
 one_flaw given asking most line WrongNumber WrongNumber p h k = refl
-one_flaw given asking most line WrongNumber NotEmpty p h k = not_empty given asking line.cube line.node h.2 k.3
-one_flaw given asking most line WrongNumber AboveTime p h k = not_so given asking line.cube line.node p h.2 k.2
+one_flaw given asking most line WrongNumber AboveTime p h k = not_so given asking line.cube line.node p h.3 k.3
 one_flaw given asking most line WrongNumber (BadStep place why) p h k = sym (bad_step given asking most line place why WrongNumber p k h)
-one_flaw given asking most line NotEmpty Misplaced p h k = absurd (k h.0)
-one_flaw given asking most line NotEmpty NotOnePair p h k = absurd (k.1 h.1)
-one_flaw given asking most line NotEmpty WrongNumber p h k = not_empty given asking line.cube line.node k.2 h.3
-one_flaw given asking most line NotEmpty NotEmpty p h k = refl
-one_flaw given asking most line NotEmpty AboveTime p h k = absurd (h.2 k.2)
-one_flaw given asking most line NotEmpty (BadStep place why) p h k = sym (bad_step given asking most line place why NotEmpty p k h)
 one_flaw given asking most line AboveTime Misplaced p h k = absurd (k h.0)
-one_flaw given asking most line AboveTime NotOnePair p h k = absurd (k.1 h.1)
-one_flaw given asking most line AboveTime WrongNumber p h k = not_so given asking line.cube line.node p k.2 h.2
-one_flaw given asking most line AboveTime NotEmpty p h k = absurd (k.2 h.2)
+one_flaw given asking most line AboveTime NotEmpty p h k = open_not given asking most line.cube line.node p k.1 h.1 h.3
+one_flaw given asking most line AboveTime NotOnePair p h k = absurd (k.2 h.2)
+one_flaw given asking most line AboveTime WrongNumber p h k = not_so given asking line.cube line.node p k.3 h.3
 one_flaw given asking most line AboveTime AboveTime p h k = refl
 one_flaw given asking most line AboveTime (BadStep place why) p h k = sym (bad_step given asking most line place why AboveTime p k h)
 one_flaw given asking most line (BadStep place why) that p h k = bad_step given asking most line place why that p h k
 
 -- a good line has no flaw
-flawless : {X : Type 0} (given : Setting) (asking : Asking) (most : ℕ) (line : Line) (flaw : Flaw) → IsOfInputs given line.cube → IsGood given asking most line
+flawless : {X : Type 0} (given : Setting) (asking : Asking) (most : Option ℕ) (line : Line) (flaw : Flaw) → IsOfInputs given line.cube → IsGood given asking most line
     → HasFlaw given asking most flaw line → X
 flawless given asking most line Misplaced p good h = absurd (h good.splits)
-flawless given asking most line NotOnePair p good h = absurd (h.1 good.one_pair)
-flawless given asking most line WrongNumber p good h = not_so given asking line.cube line.node p h.2 good.of_cube
-flawless given asking most line NotEmpty p good h = absurd (h.2 good.of_cube)
-flawless given asking most line AboveTime p good h = absurd (h.3 good.within)
+flawless given asking most line NotEmpty p good h = open_not given asking most line.cube line.node p h.1 good.enough good.of_cube
+flawless given asking most line NotOnePair p good h = absurd (h.2 good.one_pair)
+flawless given asking most line WrongNumber p good h = not_so given asking line.cube line.node p h.3 good.of_cube
+flawless given asking most line AboveTime p good h = absurd (h.4 good.within)
 flawless given asking most line (BadStep place why) p good h =
-    absurd ((only_steps given asking line.cube line.node place why p h).not_of_cube good.of_cube)
+    absurd ((only_steps given asking most line.cube line.node place why p h).not_of_cube good.of_cube)
 
 -- ---- the cubes of lines
 
@@ -174,7 +229,7 @@ before_place P (y ∷ xs) i zero x less all is = absurd (omega (arith, less))
 before_place P (y ∷ xs) zero (suc j) x less all is = subst P (some_is y x is) all.0
 before_place P (y ∷ xs) (suc i) (suc j) x less all is = before_place P xs i j x (omega (arith, less)) all.1 is
 
-one_place : (given : Setting) (asking : Asking) (most : ℕ) (lines : List Line) (i j : ℕ) (x y : Line) (this that : Flaw) → IsOfInputs given x.cube → IsOfInputs given y.cube
+one_place : (given : Setting) (asking : Asking) (most : Option ℕ) (lines : List Line) (i j : ℕ) (x y : Line) (this that : Flaw) → IsOfInputs given x.cube → IsOfInputs given y.cube
     → slice_get lines i ≡ Some x → slice_get lines j ≡ Some y
     → AllByRecursion (IsGood given asking most) (take i lines) → AllByRecursion (IsGood given asking most) (take j lines)
     → HasFlaw given asking most this x → HasFlaw given asking most that y → (this ≡ that) × (i ≡ j)
@@ -190,21 +245,19 @@ one_place given asking most lines i j x y this that x_fits y_fits at_i at_j good
       ]
     ]
 
--- the cubes of a certificate that admits its pair and has its time
-all_fit : (netlist : Netlist) (c : Certificate) (place : ℕ) (line : Line) → HasAdmittedPair netlist c → HasItsTime netlist c → slice_get (lines_in c) place ≡ Some line
+-- the cubes of a certificate of this circuit
+all_fit : (netlist : Netlist) (c : Certificate) (place : ℕ) (line : Line) → IsOfSize netlist c → slice_get (lines_in c) place ≡ Some line
     → IsOfInputs (setting_of netlist c) line.cube
-all_fit netlist c place line admitted reached stands =
+all_fit netlist c place line size stands =
     let pins : List Trit = c.question.admit.pins in
-    let long = cube_fits pins c.pair.first c.pair.second admitted.admitted.pinned in
-    let fits = vector_fits (setting_of netlist c) c.pair.first c.pair.second c.time reached in
-    let count : HasLength (2 * length netlist.inputs) pins = omega (arith, long.0, fits) in
+    let count : HasLength (2 * length netlist.inputs) pins = omega (arith, size.pins, size.inputs) in
     at_place (IsOfLength (2 * length netlist.inputs)) (lines_in c) place line (lines_fit (2 * length netlist.inputs) (pins ∷ []) c.tree (count, tt)) stands
 
 one_bad : (netlist : Netlist) (c : Certificate) (this that : Flaw) (line other : ℕ) → IsFirstBad netlist c this line
     → IsFirstBad netlist c that other → (this ≡ that) × (line ≡ other)
 one_bad netlist c this that line other h k =
-    let found = one_place (setting_of netlist c) (asking_of c.question) c.high (lines_in c) h.place k.place h.bad k.bad this that
-    (all_fit netlist c h.place h.bad h.admitted h.reached h.stands) (all_fit netlist c k.place k.bad k.admitted k.reached k.stands)
+    let found = one_place (setting_of netlist c) (asking_of c.question) (high_of c.claim) (lines_in c) h.place k.place h.bad k.bad this that
+    (all_fit netlist c h.place h.bad h.size h.stands) (all_fit netlist c k.place k.bad k.size k.stands)
     h.stands k.stands h.good_before k.good_before h.has k.has in
     let same : h.bad ≡ k.bad = some_is h.bad k.bad (sym h.stands ∙ ap (slice_get (lines_in c)) found.1 ∙ k.stands) in
     let reported : line_total (take h.place (lines_in c)) + reported_at this h.bad.node ≡ line_total (take k.place (lines_in c)) + reported_at that k.bad.node =
@@ -216,7 +269,7 @@ one_bad netlist c this that line other h k =
 -- where all lines are good, none is bad
 not_bad : {X : Type 0} (netlist : Netlist) (c : Certificate) (flaw : Flaw) (line : ℕ) → Accepts netlist c → IsFirstBad netlist c flaw line → X
 not_bad netlist c flaw line accepts bad =
-    flawless (setting_of netlist c) (asking_of c.question) c.high bad.bad flaw (all_fit netlist c bad.place bad.bad bad.admitted bad.reached bad.stands)
+    flawless (setting_of netlist c) (asking_of c.question) (high_of c.claim) bad.bad flaw (all_fit netlist c bad.place bad.bad bad.size bad.stands)
     (at_place (IsGoodIn netlist c) (lines_in c) bad.place bad.bad accepts.good bad.stands) bad.has
 
 -- ---- verdicts

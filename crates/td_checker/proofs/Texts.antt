@@ -1,6 +1,6 @@
 -- From what is said of two texts to what the checker answers.
 use Rattle.std.proofs.Common.{◌≡◌, ◌≢◌, ◌≤◌, ℕ, List, [], ◌∷◌, ◌++◌, length, map, length-append, Option, Some, refl, sym, ap, subst, ◌∙◌, arith}
-use Rattle.std.specs.Prelude.{codes, decimal, Result, Ok, Err, IfOk, IfErr}
+use Rattle.std.specs.Prelude.{codes, Result, Ok, Err, IfOk, IfErr}
 use Rattle.std.specs.List.{flat_map}
 use Rattle.std.proofs.lemmas.List.{append-nil}
 use Rattle.std.proofs.lemmas.List.Concat.{flat_map-append, flat_map-cons}
@@ -29,7 +29,7 @@ use Rattle.td_domain.specs.declared.cubes.Trit.{Trit}
 use Rattle.td_refutation.specs.Whole.{Step}
 use Rattle.td_certificate.specs.declared.tree.Node.{Node}
 use Rattle.td_certificate.specs.declared.tree.Node.TheVariants as node
-use Rattle.td_certificate.specs.Steps.{step_text, steps_text}
+use Rattle.td_certificate.specs.Steps.{or_none, step_text, steps_text}
 use Rattle.td_certificate.specs.Cubes.{cubes_past}
 use Rattle.td_certificate.specs.Walks.{position_of, lines_from}
 use Rattle.td_certificate.specs.Accepts.{lines_in, IsOfSize, Accepts}
@@ -63,8 +63,8 @@ node_long (node.Refuted refuted) =
       arith,
       steps_long refuted.steps,
       length-append (node_line (node.Refuted refuted)) (10 ∷ []),
-      length-append (codes "r\n") (steps_text refuted.steps ++ (codes "q " ++ decimal refuted.bound)),
-      length-append (steps_text refuted.steps) (codes "q " ++ decimal refuted.bound),
+      length-append (codes "r\n") (steps_text refuted.steps ++ (codes "q " ++ or_none refuted.bound)),
+      length-append (steps_text refuted.steps) (codes "q " ++ or_none refuted.bound),
     )
 
 total_long : (cubes : List (List Trit)) (nodes : List Node) → line_total (lines_from cubes nodes) ≤ length (flat_map ended (map node_line nodes))

@@ -1,5 +1,5 @@
 -- A certificate that is accepted has a text within the limit.
-use Rattle.std.proofs.Common.{◌≡◌, ◌≢◌, ◌*◌, ◌<◌, ◌≤◌, ◌^◌, ℕ, Bool, true, false, List, [], ◌∷◌, length, map, Some, refl, ap, subst, ◌∙◌, arith}
+use Rattle.std.proofs.Common.{◌≡◌, ◌≢◌, ◌*◌, ◌<◌, ◌≤◌, ◌^◌, ℕ, Bool, true, false, List, [], ◌∷◌, length, map, Option, Some, refl, sym, ap, subst, ◌∙◌, arith}
 use Rattle.std.specs.Prelude.{unwrap_or}
 use Rattle.std.specs.List.{All, AllByRecursion}
 use Rattle.std.proofs.lemmas.List.{length-map, length-set}
@@ -25,11 +25,12 @@ use Rattle.td_certificate.specs.Cubes.{cubes_past}
 use Rattle.td_certificate.specs.Trees.{pending_after, names_edges, has_edges, is_refuted, has_refuted}
 use Rattle.td_certificate.proofs.VectorCodes.{cases}
 use Rattle.td_certificate.specs.Walks.{position_of, lines_from}
-use Rattle.td_certificate.specs.Spelling.{version_in, IsNode, HasSpelling, spelling}
-use Rattle.td_certificate.specs.Lengths.{IsShort}
+use Rattle.td_certificate.specs.Spelling.{version_in, IsNode, MayClaim, HasSpelling, spelling}
+use Rattle.td_certificate.specs.Lengths.{IsShort, IsShortClaim}
 use Rattle.td_certificate.specs.Faults.{IsWithinLimit}
 use Rattle.td_certificate.specs.declared.tree.Node.TheVariants as node
-use Rattle.td_certificate.specs.Accepts.{IsGood, setting_of}
+use Rattle.td_certificate.specs.declared.certificate.Claim.{Claim}
+use Rattle.td_certificate.specs.Accepts.{IsGood, setting_of, lines_in, high_of, ClaimsAdmitted, ClaimsDelay}
 use Rattle.td_certificate.proofs.Lengths.{searched_texts_fit}
 use Rattle.td_certificate.proofs.Acceptance.{cube_fits, vector_fits}
 use Rattle.td_certificate.proofs.FirstVersion.{may_lie}
@@ -37,7 +38,7 @@ use Rattle.td_certificate.proofs.Told.{no_edges, edges_parts, are_terms, have_fe
 use Rattle.td_certificate.specs.declared.question.Version.{Version}
 use Rattle.td_certificate.specs.declared.question.Version.TheVariants.{First, Fourth}
 use Rattle.td_certificate.specs.Questions.{Question, inputs_of, version_of, asking_of}
-use Rattle.td_refutation.specs.Asking.{Asking}
+use Rattle.td_refutation.specs.Asking.{Asking, IsAskedAbout}
 use Rattle.td_checker.specs.Written.{AcceptedIsWritten}
 use Rattle.td_checker.proofs.Lines.{count_behind}
 
@@ -88,7 +89,7 @@ small_delay given acyclic fit first second delay f s is =
 -- ---- numbers of a tree whose lines are good
 
 short_node : (given : Setting) (asking : Asking) (most : ℕ) (cube : List Trit) (n : Node) → most < 10 ^ 15 → length cube ≤ 8192
-    → is_refuted n ≡ false → IsGood given asking most (record { cube = cube; node = n }) → IsShort n
+    → is_refuted n ≡ false → IsGood given asking (Some most) (record { cube = cube; node = n }) → IsShort n
 short_node given asking most cube (node.Split position) small few plain good = let inside = slice_get_within cube position Free good.splits in omega (arith, inside)
 short_node given asking most cube (node.Bound domain bound) small few plain good = omega (arith, good.within)
 short_node given asking most cube (node.Point time) small few plain good = omega (arith, good.within)
@@ -98,7 +99,7 @@ short_node given asking most cube (node.Refuted refuted) small few plain good = 
 -- a leaf without an admitted pair doesn't stand where the first version tells what is asked
 written_node : (given : Setting) (question : Question) (version : Version) (most : ℕ) (cube : List Trit) (n : Node) → (version ≢ Fourth → names_edges n ≡ false)
     → (version ≡ First → version_of question ≡ First) → length question.admit.pins ≡ 2 * inputs_of question
-    → length cube ≡ length question.admit.pins → IsShort n → IsGood given (asking_of question) most (record { cube = cube; node = n }) → IsNode version n
+    → length cube ≡ length question.admit.pins → IsShort n → IsGood given (asking_of question) (Some most) (record { cube = cube; node = n }) → IsNode version n
 written_node given question version most cube (node.Split position) plain asked pins same short good = omega (arith, short)
 written_node given question version most cube (node.Bound domain bound) plain asked pins same short good = (omega (arith, short), plain)
 written_node given question version most cube (node.Point time) plain asked pins same short good = omega (arith, short)
@@ -123,7 +124,7 @@ first_plain n nodes none = cases (is_refuted n) (λ h. absurd (let e : has_refut
 
 written_nodes : (given : Setting) (question : Question) (version : Version) (most : ℕ) (nodes : List Node) (cubes : List (List Trit)) → (version ≢ Fourth → has_edges nodes ≡ false) → (version ≡ First → version_of question ≡ First) → most < 10 ^ 15 → length question.admit.pins ≤ 8192
     → length question.admit.pins ≡ 2 * inputs_of question → AllLong (length question.admit.pins) cubes
-    → pending_after (length cubes) nodes ≡ Some 0 → has_refuted nodes ≡ false → AllByRecursion (IsGood given (asking_of question) most) (lines_from cubes nodes)
+    → pending_after (length cubes) nodes ≡ Some 0 → has_refuted nodes ≡ false → AllByRecursion (IsGood given (asking_of question) (Some most)) (lines_from cubes nodes)
     → AllByRecursion (IsWritten version) nodes
 written_nodes given question version most [] cubes edges asked small few pins long tree none good = tt
 written_nodes given question version most (n ∷ nodes) [] edges asked small few pins long tree none good = cc
@@ -146,18 +147,22 @@ are_nodes version (n ∷ nodes) all = (all.0.1, are_nodes version nodes all.1)
 -- ---- what is written
 
 pub accepted_is_written : AcceptedIsWritten
-accepted_is_written netlist_text reading netlist c reads acyclic fit flips accepts output asked can one few none =
+accepted_is_written netlist_text reading netlist c claim reads acyclic fit flips accepts output asked can claimed one few none =
     let given : Setting = setting_of netlist c in
-    let long = cube_fits c.question.admit.pins c.pair.first c.pair.second accepts.admitted.admitted.pinned in
-    let first : length c.pair.first ≡ length netlist.inputs = vector_fits given c.pair.first c.pair.second c.time accepts.reached in
-    let second : length c.pair.second ≡ length netlist.inputs = omega (arith, long.1, first) in
+    let admitted : IsAskedAbout netlist (asking_of c.question) claim.pair = subst (ClaimsAdmitted netlist (asking_of c.question)) claimed accepts.admitted in
+    let reached : IsDelayOfBits given claim.pair.first claim.pair.second claim.time = subst (ClaimsDelay given) claimed accepts.reached in
+    let good : AllByRecursion (IsGood given (asking_of c.question) (Some claim.high)) (lines_in c) =
+    subst (λ (z : Option Claim). AllByRecursion (IsGood given (asking_of c.question) (high_of z)) (lines_in c)) claimed accepts.good in
+    let long = cube_fits c.question.admit.pins claim.pair.first claim.pair.second admitted.admitted.pinned in
+    let first : length claim.pair.first ≡ length netlist.inputs = vector_fits given claim.pair.first claim.pair.second claim.time reached in
+    let second : length claim.pair.second ≡ length netlist.inputs = omega (arith, long.1, first) in
     let size = accepts.size.inputs in
-    let small : c.time < 10 ^ 15 = small_delay given acyclic fit c.pair.first c.pair.second c.time first second accepts.reached in
+    let small : claim.time < 10 ^ 15 = small_delay given acyclic fit claim.pair.first claim.pair.second claim.time first second reached in
     let inputs : inputs_of c.question ≤ 4096 = omega (arith, size, acyclic.well_formed.few_inputs) in
-    let pins : length c.question.admit.pins ≡ 2 * inputs_of c.question = omega (arith, long.0, first, size) in
-    let low : c.high < 10 ^ 15 = omega (arith, small, one) in
-    let written = written_nodes given c.question (version_in c) c.high c.tree (c.question.admit.pins ∷ [])
-    (λ other. no_edges c.question.terms c.tree c.question.admit c.question.moments can.1 other) (λ e. e) low (omega (arith, pins, inputs)) pins (refl, tt) accepts.tree none accepts.good in
+    let pins : length c.question.admit.pins ≡ 2 * inputs_of c.question = accepts.size.pins in
+    let low : claim.high < 10 ^ 15 = omega (arith, small, one) in
+    let written = written_nodes given c.question (version_in c) claim.high c.tree (c.question.admit.pins ∷ [])
+    (λ other. no_edges c.question.terms c.tree c.question.admit c.question.moments can.1 other) (λ e. e) low (omega (arith, pins, inputs)) pins (refl, tt) accepts.tree none good in
     let short : AllByRecursion IsShort c.tree = are_short (version_in c) c.tree written in
     let has : HasSpelling c = record {
       inputs = inputs;
@@ -167,14 +172,16 @@ accepted_is_written netlist_text reading netlist c reads acyclic fit flips accep
       count = fit.count ∙ size;
       moments = recursion_from_All (λ moment. moment ≤ 1000000000) c.question.moments fit.within;
       terms = are_terms c.question.terms c.tree can.1;
-      time = omega (arith, small);
-      high = one_moment (version_in c) c.time c.high one (omega (arith, small));
-      first = first ∙ size;
-      second = second ∙ size;
+      claim = subst (MayClaim (version_in c) (inputs_of c.question)) (sym claimed) (record {
+        time = omega (arith, small);
+        high = one_moment (version_in c) claim.time claim.high one (omega (arith, small));
+        first = first ∙ size;
+        second = second ∙ size;
+      });
       nodes = are_nodes (version_in c) c.tree written;
       tree = accepts.tree;
     } in
-    let within : IsWithinLimit (spelling c) = searched_texts_fit c has (have_few c.question.terms c.tree can.1) small low short few in
+    let within : IsWithinLimit (spelling c) = searched_texts_fit c has (have_few c.question.terms c.tree can.1) (subst IsShortClaim (sym claimed) (small, low)) short few in
     record {
       has = has;
       within = within;

@@ -9,12 +9,14 @@ use Rattle.td_certificate.specs.declared.tree.Node.{Node}
 use Rattle.td_certificate.specs.declared.tree.Node.TheVariants as node
 use Rattle.td_certificate.specs.declared.certificate.Certificate.{Certificate}
 use Rattle.td_refutation.specs.declared.flaw.Flaw as step_flaw
-use Rattle.td_refutation.specs.Whole.{IsBadStep, IsAboveBound}
+use Rattle.td_refutation.specs.Whole.{Step, IsBadStep, IsAboveBound}
+use Rattle.td_refutation.specs.Emptied.{AreGoodIn, IsNotEmptied}
 use Rattle.td_certificate.specs.Questions.{Terms, asking_of}
 use Rattle.td_certificate.specs.Trees.{IsTree}
 use Rattle.td_certificate.specs.Walks.{Line}
 use Rattle.td_certificate.specs.Spelling.{head_lines}
-use Rattle.td_certificate.specs.Accepts.{lines_in, SplitsFree, IsOfOnePair, IsOfCube, IsWithin, IsGood, IsOfSize, setting_of, HasItsTime, Accepts}
+use Rattle.td_certificate.specs.Accepts.{lines_in, SplitsFree, IsEnough, IsOfOnePair, IsOfCube, IsWithin, IsGood, IsOfSize, setting_of, high_of, HasItsTime, Accepts}
+pub use Rattle.td_certificate.specs.Accepts.{HasAdmittedPair}
 use Rattle.td_checker.specs.declared.verdict.Verdict.{Verdict}
 use Rattle.td_checker.specs.declared.verdict.Verdict.TheVariants as verdict
 
@@ -56,23 +58,39 @@ verdict_line _ = None
 
 -- ---- the first bad line
 
--- what is wrong with a line, in the order in which it is looked for
+-- what is wrong with a line, in the order in which it is looked for, but that a bad step stands on an
+-- earlier line than what a leaf by steps says
 pub data Flaw : Type 0 where
   Misplaced : Flaw
+  NotEmpty : Flaw
   NotOnePair : Flaw
   WrongNumber : Flaw
-  NotEmpty : Flaw
   AboveTime : Flaw
   BadStep : ℕ → step_flaw.Flaw → Flaw
 
--- a leaf that says that no admitted pair lies in its cube
-abbrev pub SaysEmpty : Node → Type 0
-SaysEmpty node.Empty = Unit {0}
-SaysEmpty _ = ⊥
+-- the steps are good, and don't show that no pair lies in the cube where they are to: the last clause
+-- isn't empty, or they are to show a bound
+abbrev pub LeaveOpen : Setting → Asking → Option ℕ → List Trit → List Step → Option ℕ → Type 0
+LeaveOpen setting asking most cube steps None = IsNotEmptied setting asking cube steps
+LeaveOpen setting asking most cube steps (Some bound) = (most ≡ None) × AreGoodIn setting asking cube steps
+
+-- A leaf says that no admitted pair lies in its cube, and one may, or it has a number where the claim is
+-- that no pair is asked about.
+abbrev pub IsNotEmpty : Setting → Asking → Option ℕ → List Trit → Node → Type 0
+IsNotEmpty setting asking most cube (node.Split position) = ⊥
+IsNotEmpty setting asking most cube (node.Bound domain bound) = most ≡ None
+IsNotEmpty setting asking most cube (node.Point time) = most ≡ None
+IsNotEmpty setting asking most cube node.Empty = ¬ IsOfCube setting asking cube node.Empty
+IsNotEmpty setting asking most cube (node.Refuted refuted) = LeaveOpen setting asking most cube refuted.steps refuted.bound
+
+-- after good steps an output may still change later than at the bound
+abbrev pub AreAbove : Setting → Asking → List Trit → List Step → Option ℕ → Type 0
+AreAbove setting asking cube steps None = ⊥
+AreAbove setting asking cube steps (Some bound) = IsAboveBound setting asking cube steps bound
 
 -- what a leaf says isn't so: its number is too low, or isn't the pair's delay
 abbrev pub IsWrong : Setting → Asking → List Trit → Node → Type 0
-IsWrong setting asking cube (node.Refuted refuted) = IsAboveBound setting asking cube refuted.steps refuted.bound
+IsWrong setting asking cube (node.Refuted refuted) = AreAbove setting asking cube refuted.steps refuted.bound
 IsWrong setting asking cube (node.Split position) = ⊥
 IsWrong setting asking cube node.Empty = ⊥
 IsWrong setting asking cube (node.Bound domain bound) = ¬ IsOfCube setting asking cube (node.Bound domain bound)
@@ -84,15 +102,16 @@ HasBadStep setting asking cube (node.Refuted refuted) place why = IsBadStep sett
 HasBadStep setting asking cube n place why = ⊥
 
 -- the line has this flaw, and none that is looked for before it
-abbrev pub HasFlaw : Setting → Asking → ℕ → Flaw → Line → Type 0
+abbrev pub HasFlaw : Setting → Asking → Option ℕ → Flaw → Line → Type 0
 HasFlaw setting asking most Misplaced line = ¬ SplitsFree line.cube line.node
-HasFlaw setting asking most NotOnePair line = SplitsFree line.cube line.node × (¬ IsOfOnePair line.cube line.node)
+HasFlaw setting asking most NotEmpty line = SplitsFree line.cube line.node × IsNotEmpty setting asking most line.cube line.node
+HasFlaw setting asking most NotOnePair line =
+    SplitsFree line.cube line.node × IsEnough most line.node × (¬ IsOfOnePair line.cube line.node)
 HasFlaw setting asking most WrongNumber line =
-    SplitsFree line.cube line.node × IsOfOnePair line.cube line.node × IsWrong setting asking line.cube line.node
-HasFlaw setting asking most NotEmpty line =
-    SplitsFree line.cube line.node × IsOfOnePair line.cube line.node × (¬ IsOfCube setting asking line.cube line.node) × SaysEmpty line.node
+    SplitsFree line.cube line.node × IsEnough most line.node × IsOfOnePair line.cube line.node × IsWrong setting asking line.cube line.node
 HasFlaw setting asking most AboveTime line =
-    SplitsFree line.cube line.node × IsOfOnePair line.cube line.node × IsOfCube setting asking line.cube line.node × (¬ IsWithin most line.node)
+    SplitsFree line.cube line.node × IsEnough most line.node × IsOfOnePair line.cube line.node × IsOfCube setting asking line.cube line.node
+    × (¬ IsWithin most line.node)
 HasFlaw setting asking most (BadStep place why) line = HasBadStep setting asking line.cube line.node place why
 
 -- ---- lines of the text
@@ -117,20 +136,16 @@ abbrev pub reported_at : Flaw → Node → ℕ
 reported_at (BadStep place why) n = 1 + place
 reported_at Misplaced n = 0
 reported_at NotOnePair n = 0
-reported_at NotEmpty n = 0
+reported_at NotEmpty n = last_line n
 reported_at WrongNumber n = last_line n
 reported_at AboveTime n = last_line n
 
 -- the flaw of a line of this certificate, and a good line of it, for this netlist
 abbrev pub HasFlawIn : Netlist → Certificate → Flaw → Line → Type 0
-HasFlawIn netlist c = HasFlaw (setting_of netlist c) (asking_of c.question) c.high
+HasFlawIn netlist c = HasFlaw (setting_of netlist c) (asking_of c.question) (high_of c.claim)
 
 abbrev pub IsGoodIn : Netlist → Certificate → Line → Type 0
-IsGoodIn netlist c = IsGood (setting_of netlist c) (asking_of c.question) c.high
-
--- the certificate's pair is admitted, and keeps the conditions
-abbrev pub HasAdmittedPair : Netlist → Certificate → Type 0
-HasAdmittedPair netlist c = IsAskedAbout netlist (asking_of c.question) c.pair
+IsGoodIn netlist c = IsGood (setting_of netlist c) (asking_of c.question) (high_of c.claim)
 
 -- The certificate is of this circuit and its pair is admitted and has its time, and this line of
 -- the text is the first bad one: it has this flaw, and those before it in the tree are good.

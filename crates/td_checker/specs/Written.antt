@@ -1,5 +1,5 @@
 -- Certificates that are accepted, and their texts.
-use Rattle.std.specs.Prelude.{◌≡◌, ℕ, ◌≤◌, false, List, length, Option}
+use Rattle.std.specs.Prelude.{◌≡◌, ℕ, ◌≤◌, false, List, length, Option, Some}
 use Rattle.td_reading.specs.declared.reading.Reading.{Reading}
 use Rattle.td_nets.specs.Netlist.{Netlist}
 use Rattle.td_source.specs.Reads.{ReadsNetlist, IsOutputOf}
@@ -8,6 +8,7 @@ use Rattle.td_run.specs.Laws.{IsAcyclic}
 use Rattle.td_certificate.specs.Questions.{Terms, inputs_of}
 use Rattle.td_certificate.specs.Lengths.{CanTell}
 use Rattle.td_certificate.specs.declared.certificate.Certificate.{Certificate}
+use Rattle.td_certificate.specs.declared.certificate.Claim.{Claim}
 use Rattle.td_certificate.specs.Spelling.{HasSpelling, spelling}
 use Rattle.td_certificate.specs.Faults.{IsWithinLimit}
 use Rattle.td_certificate.specs.Trees.{has_refuted}
@@ -31,7 +32,7 @@ CanBeTold told c = AreTold told c.question.terms × CanTell c.tree c.question.te
 -- input, no more flips than inputs, and a tree of at most 10,000,000 lines of which none is a
 -- step's, as an exact answer of a search gives it, is accepted as it is written.
 abbrev pub AcceptedIsWritten : Type 0
-AcceptedIsWritten = (netlist_text : List ℕ) (reading : Reading) (netlist : Netlist) (c : Certificate) → ReadsNetlist netlist_text reading netlist
+AcceptedIsWritten = (netlist_text : List ℕ) (reading : Reading) (netlist : Netlist) (c : Certificate) (claim : Claim) → ReadsNetlist netlist_text reading netlist
     → IsAcyclic netlist → AreMoments netlist c.question.moments → c.question.admit.flips ≤ inputs_of c.question → Accepts netlist c
-    → (output : Option ℕ) → IsOutputOf netlist_text reading output → CanBeTold (told_by reading output) c → c.high ≡ c.time
+    → (output : Option ℕ) → IsOutputOf netlist_text reading output → CanBeTold (told_by reading output) c → c.claim ≡ Some claim → claim.high ≡ claim.time
     → length c.tree ≤ 10000000 → has_refuted c.tree ≡ false → IsAcceptedAsWritten netlist_text reading c

@@ -4,12 +4,13 @@ ghost use Rattle.std.specs.Prelude.{◌≡◌, ◌≤◌, ◌<◌, ◌+◌, ◌*
 ghost use Rattle.td_nets.specs.WellFormed.{IsWellFormed};
 ghost use Rattle.td_circuit.specs.Numbering.{setting};
 ghost use Rattle.td_circuit.specs.Run.{IsDelayOfBits};
-ghost use Rattle.td_certificate.specs.Questions.{asking_of};
-ghost use Rattle.td_certificate.specs.Accepts.{lines_in, IsOfSize};
+ghost use Rattle.td_certificate.specs.Questions.{asking_of, inputs_of};
+ghost use Rattle.td_certificate.specs.Accepts.{lines_in, IsOfSize, ClaimsAdmitted, ClaimsDelay, high_of};
 ghost use Rattle.td_certificate.specs.Faults.{IsWithinLimit};
 ghost use Rattle.td_certificate.specs.Spelling.{head_lines, HasSpelling, Spells};
 ghost use Rattle.td_event_sim.specs.Scratch.{IsFor};
 ghost use Rattle.td_checker.specs.Judging.{AreJudged, reported_as};
+ghost use Rattle.td_checker.specs.Claims.{HaveVectors, lines_before};
 ghost use Rattle.td_checker.specs.Verdicts.{AreCompared, IsVerdictOn, IsVerdict, line_total};
 ghost use Rattle.td_checker.specs.declared.verdict.Verdict.{Verdict as Reported};
 ghost use Rattle.td_checker.specs.Checks.{HaveVerdict, IsCheckFault, IsCertificateFault, IsReportedAs, TellsTruth, told_terms};
@@ -20,7 +21,7 @@ use crate::order::are_fit;
 use crate::verdict::{CheckFault, Checked, Verdict};
 use crate::walking::Walk;
 use std::alloc::{AllocError, Global};
-use td_certificate::{CertFaultKind, Certificate, Terms, Version};
+use td_certificate::{CertFaultKind, Certificate, Claim, Question, Terms, Version};
 use td_circuit::Circuit;
 use td_event_sim::{Scratch, delay_of};
 use td_gates::Delay;
@@ -32,6 +33,16 @@ use td_source::{Source, source_of};
 pub struct BadLine {
     pub before: usize,
     pub flaw: Flaw,
+}
+
+/// The moment after which no admitted pair changes an output, if a pair is claimed.
+fn high_of(claim: &Option<Claim>) -> Option<u64>
+    ensures { result ≡ high_of claim.now }
+{
+    match claim {
+        None => None,
+        Some(claim) => Some(claim.high),
+    }
 }
 
 /// The first bad line of the certificate's tree, if one is bad.
@@ -46,22 +57,15 @@ fn first_bad(
     requires pins { length certificate.now.question.admit.pins ≡ 2 * length circuit.now.netlist.inputs }
     requires held { length certificate.now.question.admit.held ≡ length circuit.now.netlist.inputs }
     requires few { line_total (lines_in certificate.now) ≤ 268435456 }
-    ensures judged { IfOk result (λ found. AreJudged (setting circuit.now) (asking_of certificate.now.question) certificate.now.high (lines_in certificate.now) found) }
+    ensures judged { IfOk result (λ found. AreJudged (setting circuit.now) (asking_of certificate.now.question) (high_of certificate.now.claim) (lines_in certificate.now) found) }
     ensures before { IfOk result (λ found. IfSome found (λ bad. bad.before < 268435456)) }
 {
     let question = &certificate.question;
+    let most = high_of(&certificate.claim);
     let mut walk = Walk::new(alloc, question.admit().pins())?;
     let mut before = 0;
     for node in certificate.tree.nodes() {
-        match judge(
-            alloc,
-            scratch,
-            circuit,
-            question,
-            certificate.high,
-            &walk.cube,
-            node,
-        )? {
+        match judge(alloc, scratch, circuit, question, most, &walk.cube, node)? {
             Judged::Bad(flaw, place) => {
                 return Ok(Some(BadLine {
                     before: before + place,
@@ -77,16 +81,28 @@ fn first_bad(
     Ok(None)
 }
 
-/// The line of the text on which the tree begins.
-fn first_line(certificate: &Certificate) -> u32
-    ensures line { result ≡ 1 + length (head_lines certificate.now) }
+/// The line of the text on which the tree begins, where it is of this version and claims a pair.
+fn line_after_pair(version: Version) -> u32
+    ensures line { result ≡ lines_before version }
     ensures small { result ≤ 15 }
 {
-    match certificate.version() {
+    match version {
         Version::First => 6,
         Version::Second => 10,
         Version::Third => 11,
         Version::Fourth => 15,
+    }
+}
+
+/// The line of the text on which the tree begins.
+fn first_line(certificate: &Certificate) -> u32
+    requires spelled { HasSpelling certificate.now }
+    ensures line { result ≡ 1 + length (head_lines certificate.now) }
+    ensures small { result ≤ 15 }
+{
+    match &certificate.claim {
+        None => 12,
+        Some(_) => line_after_pair(certificate.version()),
     }
 }
 
@@ -109,6 +125,8 @@ fn reported_of(flaw: Flaw, line: u32) -> Verdict
 pub fn is_of_size(circuit: &Circuit, certificate: &Certificate) -> bool
     ensures { IsTrue result ↔ IsOfSize circuit.now.netlist certificate.now }
 {
+    // For the prover: this call says that there are two pins for each input.
+    let _pins = certificate.question.admit().pins();
     circuit.input_count() == certificate.question.inputs()
         && circuit.gates().len() == certificate.gates as usize
         && are_fit(
@@ -117,23 +135,53 @@ pub fn is_of_size(circuit: &Circuit, certificate: &Certificate) -> bool
         )
 }
 
-/// Whether the certificate's pair has its time.
+/// Whether the pair that is claimed, if one is, is admitted and keeps the conditions.
+fn is_admitted_claim(
+    alloc: Global,
+    circuit: &Circuit,
+    question: &Question,
+    claim: &Option<Claim>,
+) -> Result<bool, AllocError>
+    requires inputs { length circuit.now.netlist.inputs ≡ inputs_of question.now }
+    requires vectors { HaveVectors (inputs_of question.now) claim.now }
+    ensures { IfOk result (λ is. IsTrue is ↔ ClaimsAdmitted circuit.now.netlist (asking_of question.now) claim.now) }
+{
+    match claim {
+        None => Ok(true),
+        Some(claim) => is_asked_about(alloc, circuit, question, &claim.pair),
+    }
+}
+
+/// Whether the pair that is claimed has its time.
+fn has_its_time(scratch: &mut Scratch, circuit: &Circuit, claim: &Claim) -> Result<bool, AllocError>
+    requires scratch { IsFor circuit.now scratch.old }
+    requires first { length claim.now.pair.first ≡ length circuit.now.netlist.inputs }
+    requires second { length claim.now.pair.second ≡ length circuit.now.netlist.inputs }
+    ensures reached { IfOk result (λ is. IsTrue is ↔ IsDelayOfBits (setting circuit.now) claim.now.pair.first claim.now.pair.second claim.now.time) }
+    ensures scratch { IsFor circuit.now scratch.new }
+{
+    Ok(delay_of(scratch, circuit, &claim.pair)? == claim.time)
+}
+
+/// Whether the pair that is claimed, if one is, has its time.
 fn is_reached(
     scratch: &mut Scratch,
     circuit: &Circuit,
-    certificate: &Certificate,
+    claim: &Option<Claim>,
 ) -> Result<bool, AllocError>
     requires scratch { IsFor circuit.now scratch.old }
-    requires first { length certificate.now.pair.first ≡ length circuit.now.netlist.inputs }
-    requires second { length certificate.now.pair.second ≡ length circuit.now.netlist.inputs }
-    ensures reached { IfOk result (λ is. IsTrue is ↔ IsDelayOfBits (setting circuit.now) certificate.now.pair.first certificate.now.pair.second certificate.now.time) }
+    requires vectors { HaveVectors (length circuit.now.netlist.inputs) claim.now }
+    ensures reached { IfOk result (λ is. IsTrue is ↔ ClaimsDelay (setting circuit.now) claim.now) }
     ensures scratch { IsFor circuit.now scratch.new }
 {
-    Ok(delay_of(scratch, circuit, &certificate.pair)? == certificate.time)
+    match claim {
+        None => Ok(true),
+        Some(claim) => has_its_time(scratch, circuit, claim),
+    }
 }
 
 /// The verdict on a certificate of the size of a circuit that has the certificate's moments.
-#[tactic(auto, using(crate::proofs::Reported::bad_reported, crate::proofs::Reported::accepted_reported, crate::proofs::Reported::first_fits, crate::proofs::Reported::second_fits, crate::proofs::Reported::pins_fit, crate::proofs::Reported::held_fit, crate::proofs::Reported::is_tree))]
+#[tactic(auto, using(crate::proofs::Reported::bad_reported, crate::proofs::Reported::accepted_reported, crate::proofs::Reported::vectors_fit, crate::proofs::Reported::vectors_told, crate::proofs::Reported::pins_fit, crate::proofs::Reported::held_fit, crate::proofs::Reported::is_tree))]
 fn verdict_of_lines(
     alloc: Global,
     circuit: &Circuit,
@@ -145,11 +193,11 @@ fn verdict_of_lines(
     requires few { line_total (lines_in certificate.now) ≤ 268435456 }
     ensures { IfOk result (λ verdict. IsVerdictOn circuit.now.netlist certificate.now verdict) }
 {
-    if !is_asked_about(alloc, circuit, &certificate.question, &certificate.pair)? {
+    if !is_admitted_claim(alloc, circuit, &certificate.question, &certificate.claim)? {
         return Ok(Verdict::PairNotAdmitted);
     }
     let mut scratch = Scratch::new(alloc, circuit)?;
-    if !is_reached(&mut scratch, circuit, certificate)? {
+    if !is_reached(&mut scratch, circuit, &certificate.claim)? {
         return Ok(Verdict::PairTime);
     }
     match first_bad(alloc, &mut scratch, circuit, certificate)? {

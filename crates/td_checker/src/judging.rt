@@ -3,7 +3,7 @@
 ghost use Rattle.std.specs.Prelude.{◌≡◌, false, ◌*◌, ◌↔◌, Option, ℕ, length, Some, IfOk, IsTrue};
 ghost use Rattle.td_circuit.specs.Numbering.{setting};
 ghost use Rattle.td_domain.specs.Cubes.{IsPoint};
-ghost use Rattle.td_certificate.specs.Accepts.{IsBoundBy, SplitsFree, IsOfOnePair, IsBounded, HasDelay, IsOfCube, IsWithin};
+ghost use Rattle.td_certificate.specs.Accepts.{IsBoundBy, SplitsFree, IsEnough, IsOfOnePair, IsBounded, HasDelay, IsOfCube, IsWithin};
 ghost use Rattle.td_event_sim.specs.Scratch.{IsFor};
 ghost use Rattle.td_certificate.specs.Questions.{asking_of};
 ghost use Rattle.td_certificate.specs.Trees.{is_refuted};
@@ -27,13 +27,14 @@ use td_ternary::Possible;
 pub enum Flaw {
     /// A split at a position that doesn't exist or isn't free.
     Misplaced,
+    /// An admitted pair may lie in the cube of a leaf that says that none does, or the leaf has a
+    /// number where no pair is to be admitted.
+    NotEmpty,
     /// A leaf of one pair where something is free.
     NotOnePair,
     /// A bound less than the domain's or of a domain that gives none, or a time that isn't the
     /// pair's delay.
     WrongNumber,
-    /// An admitted pair may lie in the cube of a leaf that says that none does.
-    NotEmpty,
     /// The number of a leaf is above the time.
     AboveTime,
     /// A step of such a leaf isn't good, for this reason.
@@ -48,13 +49,14 @@ pub enum Judged {
     Bad(Flaw, usize),
 }
 
-/// What is found of the node of this cube, where the certificate's time is this.
+/// What is found of the node of this cube, where no admitted pair is to change an output after this
+/// moment, or none is to be admitted.
 pub fn judge(
     alloc: Global,
     scratch: &mut Scratch,
     circuit: &Circuit,
     question: &Question,
-    time: u64,
+    most: Option<u64>,
     cube: &Cube,
     node: &Node,
 ) -> Result<Judged, AllocError>
@@ -63,12 +65,12 @@ pub fn judge(
     requires pins { length cube.now ≡ length question.now.admit.pins }
     requires held { length question.now.admit.held ≡ length circuit.now.netlist.inputs }
     ensures scratch { IsFor circuit.now scratch.new }
-    ensures judged { IfOk result (IsJudged (setting circuit.now) (asking_of question.now) time (with_cube cube.now node.now)) }
+    ensures judged { IfOk result (IsJudged (setting circuit.now) (asking_of question.now) most (with_cube cube.now node.now)) }
 {
     match node {
-        Node::Refuted(refuted) => judge_refuted(alloc, circuit, question, time, cube, refuted),
+        Node::Refuted(refuted) => judge_refuted(alloc, circuit, question, most, cube, refuted),
         Node::Split(_) | Node::Bound(_, _) | Node::Point(_) | Node::Empty => {
-            match judge_line(alloc, scratch, circuit, question, time, cube, node)? {
+            match judge_line(alloc, scratch, circuit, question, most, cube, node)? {
                 Some(flaw) => Ok(Judged::Bad(flaw, 0)),
                 None => Ok(Judged::Good(1)),
             }
@@ -82,7 +84,7 @@ fn judge_line(
     scratch: &mut Scratch,
     circuit: &Circuit,
     question: &Question,
-    time: u64,
+    most: Option<u64>,
     cube: &Cube,
     node: &Node,
 ) -> Result<Option<Flaw>, AllocError>
@@ -91,10 +93,13 @@ fn judge_line(
     requires cube { length cube.now ≡ 2 * length circuit.now.netlist.inputs }
     requires pins { length cube.now ≡ length question.now.admit.pins }
     ensures scratch { IsFor circuit.now scratch.new }
-    ensures judged { IfOk result (IsJudgedLine (setting circuit.now) (asking_of question.now) time (with_cube cube.now node.now)) }
+    ensures judged { IfOk result (IsJudgedLine (setting circuit.now) (asking_of question.now) most (with_cube cube.now node.now)) }
 {
     if !splits_free(cube, node) {
         return Ok(Some(Flaw::Misplaced));
+    }
+    if !is_enough(most, node) {
+        return Ok(Some(Flaw::NotEmpty));
     }
     if !is_of_one_pair(cube, node) {
         return Ok(Some(Flaw::NotOnePair));
@@ -102,7 +107,7 @@ fn judge_line(
     if !is_of_cube(alloc, scratch, circuit, question, cube, node)? {
         return Ok(Some(wrong(node)));
     }
-    if !is_within(time, node) {
+    if !is_within(most, node) {
         return Ok(Some(Flaw::AboveTime));
     }
     Ok(None)
@@ -130,6 +135,20 @@ fn splits_free(cube: &Cube, node: &Node) -> bool
             position < cube.len() && cube.trit(position) == Trit::Free
         }
         Node::Bound(_, _) | Node::Point(_) | Node::Empty | Node::Refuted(_) => true,
+    }
+}
+
+/// Whether the node, where no pair is to be admitted, isn't a leaf with a number.
+fn is_enough(most: Option<u64>, node: &Node) -> bool
+    requires line { is_refuted node.now ≡ false }
+    ensures { IsTrue result ↔ IsEnough most node.now }
+{
+    match most {
+        Some(_) => true,
+        None => match node {
+            Node::Split(_) | Node::Empty | Node::Refuted(_) => true,
+            Node::Bound(_, _) | Node::Point(_) => false,
+        },
     }
 }
 
@@ -185,14 +204,17 @@ fn is_of_cube(
     }
 }
 
-/// Whether the number of a leaf is at most the time.
-fn is_within(time: u64, node: &Node) -> bool
-    ensures { IsTrue result ↔ IsWithin time node.now }
+/// Whether the number of a leaf, if it has one, is at most this.
+fn is_within(most: Option<u64>, node: &Node) -> bool
+    requires line { is_refuted node.now ≡ false }
+    ensures { IsTrue result ↔ IsWithin most node.now }
 {
-    match node {
-        Node::Split(_) | Node::Empty => true,
-        Node::Bound(_, number) | Node::Point(number) => *number <= time,
-        Node::Refuted(refuted) => refuted.bound() <= time,
+    match most {
+        None => true,
+        Some(most) => match node {
+            Node::Split(_) | Node::Empty | Node::Refuted(_) => true,
+            Node::Bound(_, number) | Node::Point(number) => *number <= most,
+        },
     }
 }
 

@@ -1,12 +1,14 @@
 //! What is wrong with a leaf that steps refute.
 
-ghost use Rattle.std.specs.Prelude.{◌≡◌, ◌*◌, length, Option, IfOk};
+ghost use Rattle.std.specs.Prelude.{◌≡◌, ◌+◌, ◌*◌, ◌^◌, ◌<◌, length, Option, IfOk};
 ghost use Rattle.td_circuit.specs.Numbering.{setting};
 ghost use Rattle.td_certificate.specs.declared.tree.Node.TheVariants.{Refuted as RefutedNode};
+ghost use Rattle.td_spans.specs.Lowering.{latest_of};
 ghost use Rattle.td_refutation.specs.Doing.{state_of, first_state};
 ghost use Rattle.td_certificate.specs.Questions.{asking_of};
 ghost use Rattle.td_checker.specs.Judging.{with_cube, IsJudged};
 ghost use Rattle.td_checker.specs.Stepping.{IsStepped, AreStepped};
+ghost use Rattle.td_checker.specs.Ending.{found_at, found_after};
 
 use crate::judging::{Flaw, Judged};
 use std::alloc::{AllocError, Global};
@@ -67,18 +69,19 @@ fn do_steps(
     Ok(Stepped::Done(place))
 }
 
-/// What is found of a leaf that steps refute, with this cube, where the certificate's time is this.
+/// What is found of a leaf that steps refute, with this cube, where no admitted pair is to change an
+/// output after this moment, or none is to be admitted.
 pub fn judge_refuted(
     alloc: Global,
     circuit: &Circuit,
     question: &Question,
-    time: u64,
+    most: Option<u64>,
     cube: &Cube,
     refuted: &Refuted,
 ) -> Result<Judged, AllocError>
     requires cube { length cube.now ≡ 2 * length circuit.now.netlist.inputs }
     requires held { length question.now.admit.held ≡ length circuit.now.netlist.inputs }
-    ensures { IfOk result (IsJudged (setting circuit.now) (asking_of question.now) time (with_cube cube.now (RefutedNode refuted.now))) }
+    ensures { IfOk result (IsJudged (setting circuit.now) (asking_of question.now) most (with_cube cube.now (RefutedNode refuted.now))) }
 {
     // For the prover: this call says that the gates are in order.
     let _gates = circuit.gates();
@@ -86,14 +89,54 @@ pub fn judge_refuted(
     let mut refutation = Refutation::new(alloc, circuit, &asked, cube)?;
     match do_steps(alloc, circuit, &asked, cube, refuted, &mut refutation)? {
         Stepped::Bad(place, flaw) => Ok(Judged::Bad(Flaw::BadStep(flaw), 1 + place)),
-        Stepped::Done(count) => {
-            if refutation.bound(circuit) > refuted.bound() {
-                return Ok(Judged::Bad(Flaw::WrongNumber, 1 + count));
+        Stepped::Done(count) => Ok(judge_done(circuit, most, refuted, &refutation, count)),
+    }
+}
+
+/// What is found of a leaf whose steps, this number, are good and led to this.
+fn judge_done(
+    circuit: &Circuit,
+    most: Option<u64>,
+    refuted: &Refuted,
+    refutation: &Refutation,
+    count: usize,
+) -> Judged
+    requires low { count + 2 < 2 ^ 64 }
+    ensures { result ≡ found_after circuit.now most refuted.now.bound (state_of refutation.now) count }
+{
+    match refuted.bound() {
+        None => {
+            if refutation.has_no_pair() {
+                Judged::Good(2 + count)
+            } else {
+                Judged::Bad(Flaw::NotEmpty, 1 + count)
             }
-            if refuted.bound() > time {
-                return Ok(Judged::Bad(Flaw::AboveTime, 1 + count));
+        }
+        Some(bound) => judge_bound(circuit, most, bound, refutation, count),
+    }
+}
+
+/// What is found where the steps are to show this bound.
+fn judge_bound(
+    circuit: &Circuit,
+    most: Option<u64>,
+    bound: u64,
+    refutation: &Refutation,
+    count: usize,
+) -> Judged
+    requires low { count + 2 < 2 ^ 64 }
+    ensures { result ≡ found_at most bound (latest_of (state_of refutation.now).times circuit.now.outputs) count }
+{
+    match most {
+        None => Judged::Bad(Flaw::NotEmpty, 1 + count),
+        Some(most) => {
+            if refutation.bound(circuit) > bound {
+                return Judged::Bad(Flaw::WrongNumber, 1 + count);
             }
-            Ok(Judged::Good(2 + count))
+            if bound > most {
+                return Judged::Bad(Flaw::AboveTime, 1 + count);
+            }
+            Judged::Good(2 + count)
         }
     }
 }

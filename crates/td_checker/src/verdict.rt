@@ -15,13 +15,13 @@ use thiserror::Error;
 
 /// The verdict on a certificate: the first that applies of another circuit, another question, a pair
 /// that isn't admitted, a pair without the time, and, line by line in the tree, a bad position, a
-/// leaf of one pair with something free, a step that isn't good, a wrong number or a leaf `none`
-/// whose cube holds an admitted pair, and a number that is too high. Lines are those of the text,
-/// from 1.
+/// leaf in whose cube an admitted pair may lie where none is to, a leaf of one pair with something
+/// free, a step that isn't good, a wrong number, and a number that is too high. Lines are those of
+/// the text, from 1.
 #[derive(Clone, Copy, Debug, PartialEq, Eq, Drop)]
 pub enum Verdict {
     /// What the certificate claims is true: the pair has its time, and no admitted pair changes an
-    /// output after its other moment.
+    /// output after its other moment; or no pair is admitted.
     Accepted,
     /// The pair's delay isn't the time.
     PairTime,
@@ -38,7 +38,8 @@ pub enum Verdict {
     OtherCircuit,
     /// The pair isn't admitted.
     PairNotAdmitted,
-    /// An admitted pair lies in the cube of a leaf `none`.
+    /// An admitted pair may lie in the cube of a leaf that says that none does, or a leaf has a
+    /// number where the claim is that no pair is admitted.
     LeafNotEmpty(u32),
     /// A step of a leaf that is refuted isn't good, for this reason.
     BadStep(u32, StepFlaw),

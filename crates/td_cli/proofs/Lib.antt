@@ -1,9 +1,8 @@
-pub mod Programs
-pub mod Searches
-pub mod Lines
-pub mod Others
-pub mod Sentences
-pub mod Accepted
-pub mod HandingOver
-pub mod Questions
-pub mod Joinings
+pub mod Sending
+pub mod Holding
+pub mod Ending
+pub mod Words
+pub mod TokenNames
+pub mod TreeNames
+pub mod NetNames
+pub mod DumpNames

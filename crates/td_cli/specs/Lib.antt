@@ -1,10 +1,5 @@
-pub mod Admitting
-pub mod WorstReports
-pub mod PartReports
-pub mod Outcomes
-pub mod JoinReports
-pub mod Parts
-pub mod Progress
-pub mod ProgressLaws
-pub mod Requests
-pub mod Sentences
+pub mod Carrying
+pub mod Clashes
+pub mod Ends
+pub mod Files
+pub mod DumpLaws

@@ -1,32 +1,32 @@
-//! The program `tdelay` as a function of its words, files and writers.
+//! The program as a function of its words, files and streams.
+//!
+//!     words ──asked──▶ Request ──each file that it names, read once──▶ Bytes
+//!           ──answer──▶ Outcome ──▶ report to out, certificate and waves to files
+//!                     ╲ Refusal ──▶ sentence and hint to err
+//!
+//! `program` is all that `main` calls. A fault (`Fault`) is one of files and streams, a refusal one of
+//! what the texts say.
 #![tactic(auto)]
 
-mod answer;
-pub mod bound;
-pub mod check;
-mod gathering;
-pub mod info;
-pub mod join;
-pub mod parts;
-pub mod path;
-mod program;
+mod advice;
+mod bytes;
+mod delivery;
+mod endings;
+mod fault;
+mod hint;
+pub mod laws;
+mod lines;
+mod message;
+mod names;
+mod outputs;
+mod print;
 mod progress;
-mod question;
-pub mod sim;
-pub mod worst;
+mod refusals;
+mod shell;
+#[cfg(test)]
+mod tests;
+mod usage;
+mod vectors;
 
-pub use answer::{Found, unanswered};
-pub use program::{carry_out, refuse_words, run, run_plain};
-pub use question::{Asked, Read, question_of, strategy_of};
-pub use td_command::{
-    BoundRequest, Certificates, CheckRequest, InfoRequest, JoinRequest, PartsRequest, PathRequest,
-    QuestionWords, Request, SimRequest, StrategyWord, WorstRequest, laws, parse,
-};
-pub use td_files::{
-    Files, MemoryFile, MemoryFiles, MemoryStep, ReadFault, RealFiles, RealWriter, WriterSink,
-};
-pub use td_report::dumping::Dump;
-pub use td_report::refusal::Refusal;
-pub use td_report::status::Status;
-pub use td_report::text::Text;
-pub use td_report::vector::Symbol;
+pub use advice::{Advice, NoAdvice, System};
+pub use shell::{carry_out, program, refuse_words, run, run_plain};

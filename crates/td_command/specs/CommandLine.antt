@@ -10,19 +10,6 @@ use Rattle.clap.specs.declared.builder.value_parser.ValueParser.TheVariants.{Nam
 use Rattle.td_gates.specs.Delays.{Delays, IsInRange}
 use Rattle.td_reading.specs.declared.reading.Reading.{Reading}
 use Rattle.td_reading.specs.Outputs.{output_asked}
-use Rattle.td_command.specs.declared.command.SimRequest.{SimRequest}
-use Rattle.td_command.specs.declared.command.PathRequest.{PathRequest}
-use Rattle.td_command.specs.declared.command.BoundRequest.{BoundRequest}
-use Rattle.td_command.specs.declared.command.StrategyWord.{StrategyWord}
-use Rattle.td_command.specs.declared.command.StrategyWord.TheVariants.{Least, Lead, Refute, Auto}
-use Rattle.td_command.specs.declared.command.QuestionWords.{QuestionWords}
-use Rattle.td_command.specs.declared.command.WorstRequest.{WorstRequest}
-use Rattle.td_command.specs.declared.command.PartsRequest.{PartsRequest}
-use Rattle.td_command.specs.declared.command.JoinRequest.{JoinRequest}
-use Rattle.td_command.specs.declared.command.CheckRequest.{CheckRequest}
-use Rattle.td_command.specs.declared.command.InfoRequest.{InfoRequest}
-use Rattle.td_command.specs.declared.command.Request.{Request}
-use Rattle.td_command.specs.declared.command.Request.TheVariants as request
 
 -- ---- what the parser is given
 
@@ -59,8 +46,8 @@ Listed = Bor (List (Bor Text))
 abbrev pub texts_of : Listed → List Text
 texts_of names = map (λ name. name.now) names.now
 
--- An option about an input by its name, of which the parser takes no value: a stage before it puts
--- options by place there (`td_naming`), and where one still stands, the words have a fault.
+-- An option about an input by its name, of which the parser takes no value: it gets
+-- words without them, and where one still stands, the words have a fault.
 abbrev pub named_option : Text → Rule
 named_option id = record (option id) { parser = Some (Unsigned 1 0) }
 
@@ -209,6 +196,10 @@ HasCount id rows (Some number) = HasNumber id rows number × (number < 2 ^ 64)
 abbrev pub HasWord : Text → List Row → Option (Bor Text) → Type 0
 HasWord id rows word = first_of id rows ≡ option_map (λ word. word.now) word
 
+-- the argument, which has to be given, is this word
+abbrev pub IsGiven : Text → List Row → Bor Text → Type 0
+IsGiven id rows word = first_of id rows ≡ Some word.now
+
 -- the argument is given as these words, all of them in order, of which there is one
 abbrev pub HasWords : Text → List Row → List Text → Type 0
 HasWords id rows words = (all_of id rows ≡ Some words) × (0 < length words)
@@ -216,17 +207,6 @@ HasWords id rows words = (all_of id rows ≡ Some words) × (0 < length words)
 -- the flag is given, or left out
 abbrev pub HasFlag : Text → List Row → Bool → Type 0
 HasFlag id rows given = one_of id rows ≡ Some (bool_text given)
-
--- the name of a strategy
-abbrev pub strategy_name : StrategyWord → Text
-strategy_name Least = codes "least"
-strategy_name Lead = codes "lead"
-strategy_name Refute = codes "refute"
-strategy_name Auto = codes "auto"
-
--- the option names this strategy, or is left out and it is the default
-abbrev pub HasStrategy : List Row → StrategyWord → Type 0
-HasStrategy rows strategy = first_of (codes "strategy") rows ≡ Some (strategy_name strategy)
 
 abbrev pub delays : ℕ → ℕ → Delays
 delays rise fall = record { rise = rise; fall = fall }
@@ -255,134 +235,14 @@ HasBudget rows budget = HasNumber (codes "budget") rows budget × (budget ≤ 10
 abbrev pub HasWorkers : List Row → ℕ → Type 0
 HasWorkers rows workers = HasNumber (codes "workers") rows workers × (0 < workers) × (workers ≤ 64)
 
--- how many threads search, the most nodes, and the seconds after which the search ends
-abbrev pub AsksEffort : List Row → ℕ × ℕ × Option ℕ → Type 0
-AsksEffort rows asked = HasWorkers rows asked.0 × HasBudget rows asked.1 × HasCount (codes "seconds") rows asked.2
-
--- what a search reports beside its answer
-abbrev pub AsksBeside : List Row → Bool × Bool × Bool → Type 0
-AsksBeside rows asked =
-    HasFlag (codes "path") rows asked.0 × HasFlag (codes "progress") rows asked.1 × HasFlag (codes "outputs") rows asked.2
-
 -- how many parts a question has
 abbrev pub HasParts : List Row → ℕ → Type 0
 HasParts rows parts = HasNumber (codes "parts") rows parts × (0 < parts) × (parts ≤ 65536)
-
--- the words of `sim` ask for this
-pub record AsksSim (rows : List Row) (asked : SimRequest) : Type 0 where
-  pub file : first_of (codes "FILE") rows ≡ Some asked.file.now
-  pub from : first_of (codes "FROM") rows ≡ Some asked.from.now
-  pub to : first_of (codes "TO") rows ≡ Some asked.to.now
-  pub at : HasWord (codes "at") rows asked.at
-  pub vcd : HasWord (codes "vcd") rows asked.vcd
-  pub outputs : HasFlag (codes "outputs") rows asked.outputs
-  pub reading : HasWholeReading rows asked.reading
-
--- the words of `path` ask for this
-pub record AsksPath (rows : List Row) (asked : PathRequest) : Type 0 where
-  pub file : first_of (codes "FILE") rows ≡ Some asked.file.now
-  pub from : first_of (codes "FROM") rows ≡ Some asked.from.now
-  pub to : first_of (codes "TO") rows ≡ Some asked.to.now
-  pub at : HasWord (codes "at") rows asked.at
-  pub output : HasWord (codes "output") rows asked.output
-  pub reading : HasWholeReading rows asked.reading
-
--- the words of `bound` ask for this
-pub record AsksBound (rows : List Row) (asked : BoundRequest) : Type 0 where
-  pub file : first_of (codes "FILE") rows ≡ Some asked.file.now
-  pub first : HasWord (codes "first") rows asked.first
-  pub second : HasWord (codes "second") rows asked.second
-  pub at : HasWord (codes "at") rows asked.at
-  pub edges : HasFlag (codes "edges") rows asked.edges
-  pub outputs : HasFlag (codes "outputs") rows asked.outputs
-  pub reading : HasReading rows asked.reading
-
--- the words say that a search is asked this
-pub record AsksQuestion (rows : List Row) (asked : QuestionWords) : Type 0 where
-  pub first : HasWord (codes "first") rows asked.first
-  pub second : HasWord (codes "second") rows asked.second
-  pub hold : HasWord (codes "hold") rows asked.hold
-  pub flips : HasCount (codes "flips") rows asked.flips
-  pub at : HasWord (codes "at") rows asked.at
-  pub strategy : HasStrategy rows asked.strategy
-
--- the words of `worst` ask for this
-pub record AsksWorst (rows : List Row) (asked : WorstRequest) : Type 0 where
-  pub file : first_of (codes "FILE") rows ≡ Some asked.file.now
-  pub question : AsksQuestion rows asked.question
-  pub workers : HasWorkers rows asked.workers
-  pub budget : HasBudget rows asked.budget
-  pub seconds : HasCount (codes "seconds") rows asked.seconds
-  pub certificate : HasWord (codes "cert") rows asked.certificate
-  pub vcd : HasWord (codes "vcd") rows asked.vcd
-  pub path : HasFlag (codes "path") rows asked.path
-  pub progress : HasFlag (codes "progress") rows asked.progress
-  pub outputs : HasFlag (codes "outputs") rows asked.outputs
-  pub reading : HasReading rows asked.reading
-
--- the words of `parts` ask for this
-pub record AsksParts (rows : List Row) (asked : PartsRequest) : Type 0 where
-  pub file : first_of (codes "FILE") rows ≡ Some asked.file.now
-  pub parts : HasParts rows asked.parts
-  pub question : AsksQuestion rows asked.question
-  pub reading : HasReading rows asked.reading
-
--- the words of `join` ask for this
-pub record AsksJoin (rows : List Row) (asked : JoinRequest) : Type 0 where
-  pub file : first_of (codes "FILE") rows ≡ Some asked.file.now
-  pub certificates : HasWords (codes "CERT") rows asked.certificates
-  pub certificate : HasWord (codes "cert") rows asked.certificate
-  pub check : HasFlag (codes "check") rows asked.check
-  pub first : HasWord (codes "first") rows asked.first
-  pub second : HasWord (codes "second") rows asked.second
-  pub reading : HasReading rows asked.reading
-
--- the words of `check` ask for this
-pub record AsksCheck (rows : List Row) (asked : CheckRequest) : Type 0 where
-  pub file : first_of (codes "FILE") rows ≡ Some asked.file.now
-  pub certificate : first_of (codes "CERT") rows ≡ Some asked.certificate.now
-  pub reading : HasReading rows asked.reading
-
--- the words of `info` ask for this
-pub record AsksInfo (rows : List Row) (asked : InfoRequest) : Type 0 where
-  pub file : first_of (codes "FILE") rows ≡ Some asked.file.now
-  pub reading : HasWholeReading rows asked.reading
-
--- the command of this name, with these words, asks for this
-abbrev pub CommandAsks : Text → List Row → Request → Type 0
-CommandAsks name rows (request.Sim asked) = (name ≡ codes "sim") × AsksSim rows asked
-CommandAsks name rows (request.Path asked) = (name ≡ codes "path") × AsksPath rows asked
-CommandAsks name rows (request.Bound asked) = (name ≡ codes "bound") × AsksBound rows asked
-CommandAsks name rows (request.Worst asked) = (name ≡ codes "worst") × AsksWorst rows asked
-CommandAsks name rows (request.Parts asked) = (name ≡ codes "parts") × AsksParts rows asked
-CommandAsks name rows (request.Join asked) = (name ≡ codes "join") × AsksJoin rows asked
-CommandAsks name rows (request.Check asked) = (name ≡ codes "check") × AsksCheck rows asked
-CommandAsks name rows (request.Info asked) = (name ≡ codes "info") × AsksInfo rows asked
-
--- a command was given, and asks for this
-abbrev pub EnteredAsks : Option (Text × List Row) → Request → Type 0
-EnteredAsks entered asked = (name : Text) × (rows : List Row) × (entered ≡ Some (name, rows)) × CommandAsks name rows asked
 
 -- the kinds of what there is to report of the words in place of a command: help, the version, or a
 -- fault of theirs; none where the program takes them
 abbrev pub kinds_of : List Text → Kinds
 kinds_of words = fault_of program words
-
--- The program takes the words of the command line, of which the first is its name, and they ask for
--- this.
-pub record Asks (words : List Text) (asked : Request) : Type 0 where
-  pub taken : kinds_of words ≡ []
-  pub asks : EnteredAsks (subcommand_of program words) asked
-
--- what the program takes asks for a command
-abbrev pub TakenAsk : Type 0
-TakenAsk = (words : List Text) → kinds_of words ≡ [] → (asked : Request) × Asks words asked
-
--- the numbers that were asked for are in range
-abbrev pub IsCarriedOut : Request → Type 0
-IsCarriedOut (request.Worst asked) = (asked.budget ≤ 10000000) × (0 < asked.workers) × (asked.workers ≤ 64)
-IsCarriedOut (request.Parts asked) = (0 < asked.parts) × (asked.parts ≤ 65536)
-IsCarriedOut other = ⊤
 
 -- the answer is what is asked, none where nothing is
 abbrev pub IsAnswered : {X : Type 0} → (X → Type 0) → Option X → Type 0

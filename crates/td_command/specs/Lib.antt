@@ -1,6 +1,6 @@
 pub mod CommandLine
 pub mod Conflicts
-pub mod Flags
 pub mod Telling
 pub mod Saying
 pub mod Parting
+pub mod Faults

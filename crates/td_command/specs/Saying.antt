@@ -1,9 +1,12 @@
 -- What the words of a command say, as a request.
-use Rattle.std.specs.Prelude.{◌≡◌, ℕ, List, codes, Bool, true, false, ◌||◌, Option, Some, map}
+use Rattle.std.specs.Prelude.{◌≡◌, List, [], codes, Bool, true, false, ◌&&◌, ◌||◌, not, Option, Some, None, map}
 use Rattle.std.specs.Str.{bytes_eq}
 use Rattle.clap.specs.Words.{Row, Text, first_of, subcommand_of}
 use Rattle.td_reading.specs.declared.reading.Reading.{Reading}
 use Rattle.td_inputs.specs.declared.scanning.Taken.{Taken}
+use Rattle.td_inputs.specs.declared.topic.Topic.TheVariants.{At, Pin, HoldInput}
+use Rattle.td_inputs.specs.Readings.{has}
+use Rattle.td_inputs.specs.Scans.{Taken as Said, taken_in}
 use Rattle.td_request.specs.declared.effort.Effort.{Effort}
 use Rattle.td_request.specs.declared.question.Inputs.{Inputs}
 use Rattle.td_request.specs.declared.question.Question.{Question}
@@ -22,13 +25,9 @@ use Rattle.td_request.specs.declared.request.Parts.{Parts}
 use Rattle.td_request.specs.declared.request.Join.{Join}
 use Rattle.td_request.specs.declared.request.Check.{Check}
 use Rattle.td_request.specs.declared.request.Request.{Request}
-use Rattle.td_command.specs.CommandLine.{HasCount, HasWord, HasWords, HasFlag, HasNumber, HasReading, HasWholeReading, program}
+use Rattle.td_command.specs.CommandLine.{HasCount, HasWord, HasWords, HasFlag, HasNumber, HasReading, HasWholeReading, IsGiven, kinds_of, program}
 use Rattle.td_command.specs.declared.words.Words.{Words}
-use Rattle.td_command.specs.declared.asking.Common.{Common}
-
--- the word of an argument that has to be given
-abbrev pub IsGiven : Text → List Row → List ℕ → Type 0
-IsGiven id rows word = first_of id rows ≡ Some word
+use Rattle.td_command.specs.declared.requests.Common.{Common}
 
 -- what is said of inputs: by place in options of the command, by name in words that are no options
 -- of the parser
@@ -50,7 +49,7 @@ strategy_word strategy.Refute = codes "refute"
 strategy_word strategy.Auto = codes "auto"
 
 abbrev pub SaysStrategy : List Row → Strategy → Type 0
-SaysStrategy rows said = IsGiven (codes "strategy") rows (strategy_word said)
+SaysStrategy rows said = first_of (codes "strategy") rows ≡ Some (strategy_word said)
 
 pub record SaysEffort (rows : List Row) (said : Effort) : Type 0 where
   pub workers : HasNumber (codes "workers") rows said.workers
@@ -63,15 +62,15 @@ pub record SaysShown (rows : List Row) (said : Shown) : Type 0 where
   pub progress : HasFlag (codes "progress") rows said.progress
 
 pub record SaysSim (rows : List Row) (named : List Taken) (said : Sim) : Type 0 where
-  pub from : IsGiven (codes "FROM") rows said.from.now
-  pub to : IsGiven (codes "TO") rows said.to.now
+  pub from : IsGiven (codes "FROM") rows said.from
+  pub to : IsGiven (codes "TO") rows said.to
   pub inputs : SaysInputs rows named said.inputs
   pub outputs : HasFlag (codes "outputs") rows said.outputs
   pub dump : HasWord (codes "vcd") rows said.dump
 
 pub record SaysPath (rows : List Row) (named : List Taken) (said : Path) : Type 0 where
-  pub from : IsGiven (codes "FROM") rows said.from.now
-  pub to : IsGiven (codes "TO") rows said.to.now
+  pub from : IsGiven (codes "FROM") rows said.from
+  pub to : IsGiven (codes "TO") rows said.to
   pub inputs : SaysInputs rows named said.inputs
   pub output : HasWord (codes "output") rows said.output
 
@@ -108,7 +107,7 @@ SaysCommand name rows named (command.Bound said) = (name ≡ codes "bound") × S
 SaysCommand name rows named (command.Worst said) = (name ≡ codes "worst") × SaysWorst rows named said
 SaysCommand name rows named (command.Parts said) = (name ≡ codes "parts") × SaysParts rows named said
 SaysCommand name rows named (command.Join said) = (name ≡ codes "join") × SaysJoin rows named said
-SaysCommand name rows named (command.Check said) = (name ≡ codes "check") × IsGiven (codes "CERT") rows said.certificate.now
+SaysCommand name rows named (command.Check said) = (name ≡ codes "check") × IsGiven (codes "CERT") rows said.certificate
 SaysCommand name rows named command.Info = name ≡ codes "info"
 
 -- no report where that is asked for, else JSON where that is
@@ -130,13 +129,13 @@ abbrev pub SaysReading : Text → List Row → Reading → Type 0
 SaysReading name rows reading = (is_about_all name ≡ true → HasWholeReading rows reading) × (is_about_all name ≡ false → HasReading rows reading)
 
 pub record SaysCommon (name : Text) (rows : List Row) (said : Common) : Type 0 where
-  pub file : IsGiven (codes "FILE") rows said.file.now
+  pub file : IsGiven (codes "FILE") rows said.file
   pub reading : SaysReading name rows said.reading
   pub form : SaysForm rows said.form
   pub hints : HasFlag (codes "hints") rows said.hints
 
 pub record SaysRequest (name : Text) (rows : List Row) (named : List Taken) (said : Request) : Type 0 where
-  pub file : IsGiven (codes "FILE") rows said.file.now
+  pub file : IsGiven (codes "FILE") rows said.file
   pub reading : SaysReading name rows said.reading
   pub asks : SaysCommand name rows named said.command
   pub form : SaysForm rows said.form
@@ -150,6 +149,27 @@ EntersRequest entered named said = (name : Text) × (rows : List Row) × (entere
 abbrev pub plain_of : Words → List Text
 plain_of words = map (λ word. word.now) words.plain.items
 
--- the words ask for this
-abbrev pub AskFor : Words → Request → Type 0
-AskFor words said = EntersRequest (subcommand_of program (plain_of words)) words.named.items said
+-- The program takes the words, but for those about inputs by name, and they ask for this.
+pub record AskFor (words : Words) (said : Request) : Type 0 where
+  pub taken : kinds_of (plain_of words) ≡ []
+  pub asks : EntersRequest (subcommand_of program (plain_of words)) words.named.items said
+
+-- the command of this name takes what is said of inputs by name
+abbrev pub takes : Text → List Said → Bool
+takes name named =
+    let searches = bytes_eq name (codes "worst") || bytes_eq name (codes "parts") in
+    let pins = searches || (bytes_eq name (codes "bound") || bytes_eq name (codes "join")) in
+    let moments = searches || (bytes_eq name (codes "bound") || (bytes_eq name (codes "sim") || bytes_eq name (codes "path"))) in
+    (pins || not (has Pin named)) && ((searches || not (has HoldInput named)) && (moments || not (has At named)))
+
+abbrev pub takes_entered : Option (Text × List Row) → List Said → Bool
+takes_entered None named = true
+takes_entered (Some entered) named = takes entered.0 named
+
+-- the command of the words takes what they say of inputs by name
+abbrev pub take_names : Words → Bool
+take_names words = takes_entered (subcommand_of program (plain_of words)) (map taken_in words.named.items)
+
+-- whatever else is said of inputs by name, words that the program takes ask for a command
+abbrev pub TakenAsk : Type 0
+TakenAsk = (words : List Text) (named : List Taken) → kinds_of words ≡ [] → (said : Request) × EntersRequest (subcommand_of program words) named said

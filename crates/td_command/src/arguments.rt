@@ -12,15 +12,7 @@ use clap::{Arg, ArgAction, Command};
 use std::alloc::{AllocError, Global};
 use std::marker::Model;
 use td_gates::Delay;
-
-/// The most threads that may search.
-pub(crate) const MOST_WORKERS: u32 = 64;
-
-/// The most nodes that a search may handle.
-pub const MOST_NODES: u32 = 10_000_000;
-
-/// The most parts of a question.
-pub(crate) const MOST_PARTS: u32 = 65_536;
+use td_request::{MOST_NODES, MOST_PARTS, MOST_WORKERS};
 
 /// The arguments of a command, in order. A contract sees what the parser knows of each.
 #[derive(Drop)]

@@ -20,7 +20,7 @@ sentence (verdict.BadPosition one) = codes "a split at a position that doesn't e
 sentence (verdict.NotAPoint one) = codes "a leaf of one pair where a bit is still free"
 sentence verdict.OtherCircuit = codes "its numbers of inputs and gates, or its conditions, don't fit the circuit"
 sentence verdict.PairNotAdmitted = codes "its pair isn't one that its lines first, second, hold, flips and keep admit"
-sentence (verdict.LeafNotEmpty one) = codes "a leaf claims that no admitted pair lies in its cube, but one may"
+sentence (verdict.LeafNotEmpty one) = codes "a leaf has to show that no admitted pair lies in its cube, and doesn't"
 sentence (verdict.BadStep line reason) = flaw_sentence reason
 sentence (verdict.OtherQuestion one) = codes "it is about other default delays, or about other outputs"
 

@@ -39,7 +39,7 @@ pub fn sentence(verdict: Verdict) -> &'static [u8]
             b"its pair isn't one that its lines first, second, hold, flips and keep admit"
         }
         Verdict::LeafNotEmpty(_) => {
-            b"a leaf claims that no admitted pair lies in its cube, but one may"
+            b"a leaf has to show that no admitted pair lies in its cube, and doesn't"
         }
         Verdict::BadStep(_, flaw) => flaw_sentence(flaw),
         Verdict::OtherQuestion(_) => b"it is about other default delays, or about other outputs",

@@ -1,10 +1,11 @@
 -- Where certificates are accepted, so is what they are joined into.
-use Rattle.std.proofs.Common.{Bool, true, inl, inr, ◌≡◌, ◌+◌, ◌≤◌, ℕ, List, [], ◌∷◌, ◌++◌, length, set, Some, None, Option, refl, sym, ap, subst, ◌∙◌, arith}
+use Rattle.std.proofs.Common.{Bool, true, inl, inr, ◌≡◌, ◌+◌, ◌*◌, ◌≤◌, ℕ, List, [], ◌∷◌, ◌++◌, length, set, Some, None, Option, refl, sym, ap, subst, ◌∙◌, arith}
 use Rattle.std.specs.Prelude.{slice_get, All, Contains}
 use Rattle.std.specs.List.{AllByRecursion}
+use Rattle.std.proofs.lemmas.List.{length-set}
 use Rattle.std.proofs.lemmas.List.Elements.{All-filter, All-contains}
 use Rattle.td_circuit.specs.Settings.{Setting}
-use Rattle.td_circuit.specs.Run.{IsDelayOfBits}
+use Rattle.td_nets.specs.Netlist.{Netlist}
 use Rattle.td_domain.specs.declared.cubes.Trit.{Trit}
 use Rattle.td_domain.specs.declared.cubes.Trit.TheVariants.{Zero, One, Free}
 use Rattle.td_domain.specs.Pairs.{Pair}
@@ -14,51 +15,87 @@ use Rattle.td_domain.proofs.Lists.{all_append, all_parts}
 use Rattle.td_certificate.specs.declared.tree.Node.{Node}
 use Rattle.td_certificate.specs.declared.tree.Node.TheVariants as node
 use Rattle.td_certificate.specs.declared.certificate.Certificate.{Certificate}
+use Rattle.td_certificate.specs.declared.certificate.Claim.{Claim}
 use Rattle.td_certificate.specs.Trees.{Tree, nodes_of, IsTree, lines_of}
 use Rattle.td_certificate.specs.Trees as trees
 use Rattle.td_certificate.specs.Walks.{Line, lines_from}
 use Rattle.td_refutation.specs.declared.conditions.NamedCondition.{NamedCondition}
 use Rattle.td_refutation.specs.Asking.{Asking, IsKept, IsAskedAbout}
 use Rattle.td_certificate.specs.Questions.{Terms, inputs_of, keep_by, asking_of}
-use Rattle.td_certificate.specs.Accepts.{IsGood, IsOfCube, IsWithin, are_fit, Accepts, setting_of}
+use Rattle.td_certificate.specs.Accepts.{SaysNone, IsEnough, IsAtMost, IsBoundWithin, IsGood, IsOfCube, IsWithin, are_fit, ClaimsAdmitted, ClaimsDelay, high_of, Accepts, setting_of}
 use Rattle.td_certificate.proofs.TreeLaws.{trees_are_counted}
 use Rattle.td_certificate.proofs.Walking.{lines_are_walked}
 use Rattle.td_certificate.proofs.Acceptance.{at_moments}
-use Rattle.td_join.specs.Joining.{pins_of, is_zero, is_one, is_known, AreJoined, alone, missing, halved, IsAlike, AreMerged, IsClosed, AcceptedTogether}
-use Rattle.td_join.proofs.Pinned.{same_pairs, same_asking, refuted_wider}
+use Rattle.td_join.specs.Joining.{pins_of, is_zero, is_one, is_known, AreJoined, alone, missing, halved, IsAlike, AreMerged, IsClosed, IsClosedClaim, IsNotLater, AcceptedTogether}
+use Rattle.td_join.proofs.Pinned.{same_pairs, same_asking, shows_wider}
 use Rattle.td_join.proofs.Cubing.{wider, filter_has, Contains-less}
 use Rattle.td_join.proofs.Restricting.{is_known_at}
 use Rattle.td_gates.proofs.Places.{All-from_contains}
 
 -- ---- a tree that is good with its own pins and time is so with wider pins and a greater time
 
-module _ (setting : Setting) (asking : Asking) (own : List Trit) (least most : ℕ) (more : least ≤ most) where
+abbrev some_number : ℕ → Option ℕ
+some_number x = Some x
+
+-- a number up to which leaves are good, where none stands for no pair at all
+abbrev IsLess : Option ℕ → Option ℕ → Type 0
+IsLess None most = Unit {0}
+IsLess (Some least) None = ⊥
+IsLess (Some least) (Some most) = least ≤ most
+
+says_enough : (most : Option ℕ) (n : Node) → SaysNone n → IsEnough most n
+says_enough None n says = says
+says_enough (Some most) n says = tt
+
+enough_more : (least most : Option ℕ) (n : Node) → IsLess least most → IsEnough least n → IsEnough most n
+enough_more None most n less enough = says_enough most n enough
+enough_more (Some least) None n less enough = absurd less
+enough_more (Some least) (Some most) n less enough = tt
+
+number_more : (least most : Option ℕ) (number : ℕ) → IsLess least most → (least ≡ None → ⊥) → IsAtMost least number → IsAtMost most number
+number_more None most number less some h = absurd (some refl)
+number_more (Some least) None number less some h = absurd less
+number_more (Some least) (Some most) number less some h = omega (arith, h, less)
+
+bound_more : (least most : Option ℕ) (bound : Option ℕ) → IsLess least most → (least ≡ None → bound ≡ None) → IsBoundWithin least bound → IsBoundWithin most bound
+bound_more least most None less none h = tt
+bound_more least most (Some bound) less none h = number_more least most bound less (λ is. none_some bound (none is)) h
+  where
+    none_some : (x : ℕ) → some_number x ≡ None → ⊥
+    none_some x e = cc
+
+module _ (setting : Setting) (asking : Asking) (own : List Trit) (least most : Option ℕ) (more : IsLess least most) where
   -- what is said of a line holds with wider pins, where its cube is a part of its own
   of_wider : (cube : List Trit) (n : Node) → ((pair : Pair) → IsIn pair cube → IsIn pair own)
       → IsOfCube setting (same_asking asking own) cube n → IsOfCube setting asking cube n
   of_wider cube (node.Split position) part h = h
   of_wider cube (node.Bound domain bound) part h = h
   of_wider cube (node.Point time) part h = h
-  of_wider cube (node.Refuted refuted) part h = refuted_wider setting asking own cube refuted.steps refuted.bound h
+  of_wider cube (node.Refuted refuted) part h = shows_wider setting asking own cube refuted.steps refuted.bound h
   of_wider cube node.Empty part h = λ may. h (
     (may.0.0, record { pinned = part may.0.0 may.0.2; held = may.0.1.held; few = may.0.1.few }, may.0.2),
     may.1,
   )
 
-  within_more : (n : Node) → IsWithin least n → IsWithin most n
-  within_more (node.Split position) h = h
-  within_more (node.Bound domain bound) h = omega (arith, h, more)
-  within_more (node.Point time) h = omega (arith, h, more)
-  within_more node.Empty h = h
-  within_more (node.Refuted refuted) h = omega (arith, h, more)
+  -- where no pair is claimed, a leaf says that none lies in its cube
+  says_none : (n : Node) → IsEnough least n → least ≡ None → SaysNone n
+  says_none n enough none = subst (λ (l : Option ℕ). IsEnough l n) none enough
+
+  within_more : (n : Node) → IsEnough least n → IsWithin least n → IsWithin most n
+  within_more (node.Split position) enough h = h
+  within_more (node.Bound domain bound) enough h = number_more least most bound more (says_none (node.Bound domain bound) enough) h
+  within_more (node.Point time) enough h = number_more least most time more (says_none (node.Point time) enough) h
+  within_more node.Empty enough h = h
+  within_more (node.Refuted refuted) enough h = bound_more least most refuted.bound more (says_none (node.Refuted refuted) enough) h
 
   good_more : (cube : List Trit) (n : Node) → ((pair : Pair) → IsIn pair cube → IsIn pair own)
       → IsGood setting (same_asking asking own) least (record { cube = cube; node = n }) → IsGood setting asking most (record { cube = cube; node = n })
   good_more cube n part good = record {
     splits = good.splits;
+    enough = enough_more least most n more good.enough;
     one_pair = good.one_pair;
     of_cube = of_wider cube n part good.of_cube;
-    within = within_more n good.within;
+    within = within_more n good.enough good.within;
   }
 
   pub lines_more : (tree : Tree) (cube : List Trit) → ((pair : Pair) → IsIn pair cube → IsIn pair own)
@@ -80,18 +117,18 @@ module _ (setting : Setting) (asking : Asking) (own : List Trit) (least most : �
 -- ---- joined trees
 
 -- the certificate's tree is good with its own pins and time, and its time is at most this
-record IsGoodPart (setting : Setting) (asking : Asking) (most : ℕ) (c : Certificate) : Type 0 where
+record IsGoodPart (setting : Setting) (asking : Asking) (most : Option ℕ) (c : Certificate) : Type 0 where
   is_tree : IsTree c.tree
-  good : AllByRecursion (IsGood setting (same_asking asking (pins_of c)) c.high) (lines_from (pins_of c ∷ []) c.tree)
-  less : c.high ≤ most
+  good : AllByRecursion (IsGood setting (same_asking asking (pins_of c)) (high_of c.claim)) (lines_from (pins_of c ∷ []) c.tree)
+  less : IsLess (high_of c.claim) most
 
 -- the tree whose nodes these are is good
-record IsGoodTree (setting : Setting) (asking : Asking) (most : ℕ) (cube : List Trit) (nodes : List Node) : Type 0 where
+record IsGoodTree (setting : Setting) (asking : Asking) (most : Option ℕ) (cube : List Trit) (nodes : List Node) : Type 0 where
   tree : Tree
   nodes_are : nodes_of tree ≡ nodes
   good : AllByRecursion (IsGood setting asking most) (lines_of cube tree)
 
-module _ (setting : Setting) (asking : Asking) (most : ℕ) where
+module _ (setting : Setting) (asking : Asking) (most : Option ℕ) where
   own_tree : (c : Certificate) → IsGoodPart setting asking most c → IsGoodTree setting asking most (pins_of c) c.tree
   own_tree c part =
       let t = trees_are_counted.has_tree c.tree part.is_tree in
@@ -100,8 +137,8 @@ module _ (setting : Setting) (asking : Asking) (most : ℕ) where
       record {
         tree = t.0;
         nodes_are = t.1;
-        good = lines_more setting asking (pins_of c) c.high most part.less t.0 (pins_of c) (λ pair h. h)
-            (subst (λ (ls : List Line). AllByRecursion (IsGood setting (same_asking asking (pins_of c)) c.high) ls) walked part.good);
+        good = lines_more setting asking (pins_of c) (high_of c.claim) most part.less t.0 (pins_of c) (λ pair h. h)
+            (subst (λ (ls : List Line). AllByRecursion (IsGood setting (same_asking asking (pins_of c)) (high_of c.claim)) ls) walked part.good);
       }
 
   empty_tree : (cube : List Trit) → (¬ HasAdmitted asking.admit cube) → IsGoodTree setting asking most cube (node.Empty ∷ [])
@@ -109,7 +146,7 @@ module _ (setting : Setting) (asking : Asking) (most : ℕ) where
   empty_tree cube none = record {
     tree = trees.Empty;
     nodes_are = refl;
-    good = (record { splits = tt; one_pair = tt; of_cube = λ may. none may.0; within = tt }, tt);
+    good = (record { splits = tt; enough = says_enough most node.Empty tt; one_pair = tt; of_cube = λ may. none may.0; within = tt }, tt);
   }
 
   split_tree : (cube : List Trit) (position : ℕ) (low high : List Node) → slice_get cube position ≡ Some Free
@@ -121,7 +158,7 @@ module _ (setting : Setting) (asking : Asking) (most : ℕ) where
     nodes_are = ap (λ (ns : List Node). node.Split position ∷ (ns ++ nodes_of highs.tree)) lows.nodes_are
         ∙ ap (λ (ns : List Node). node.Split position ∷ (low ++ ns)) highs.nodes_are;
     good = (
-      record { splits = free; one_pair = tt; of_cube = tt; within = tt },
+      record { splits = free; enough = says_enough most (node.Split position) tt; one_pair = tt; of_cube = tt; within = tt },
       all_append (IsGood setting asking most) (lines_of (set cube position Zero) lows.tree) (lines_of (set cube position One) highs.tree) lows.good highs.good,
     );
   }
@@ -219,39 +256,80 @@ asking_is this that keep held flips kept =
     ap (λ (a : Admitted). record { admit = a; keep = keep }) (same_question this.admit that held flips)
     ∙ ap (λ (k : List NamedCondition). record { admit = same_pairs this.admit that.pins; keep = k }) kept
 
+-- the moments of claims that are closed
+less_high : (this that : Option Claim) → IsClosedClaim this → IsClosedClaim that → IsNotLater this that → IsLess (high_of this) (high_of that)
+less_high None that mine yours low = tt
+less_high (Some this) None mine yours low = absurd low
+less_high (Some this) (Some that) mine yours low = omega (arith, mine, yours, low)
+
+-- the pair that is claimed is one of those of the whole, with its time
+admitted_whole : (netlist : Netlist) (one other : Asking) (claim : Option Claim) → ((pair : Pair) → IsIn pair one.admit.pins → IsIn pair other.admit.pins)
+    → one.admit.held ≡ other.admit.held → one.admit.flips ≡ other.admit.flips → one.keep ≡ other.keep → ClaimsAdmitted netlist one claim → ClaimsAdmitted netlist other claim
+admitted_whole netlist one other None inside held flips keep admitted = tt
+admitted_whole netlist one other (Some claim) inside held flips keep admitted = record {
+  admitted = record {
+    pinned = inside claim.pair admitted.admitted.pinned;
+    held = subst (λ (hs : List Bool). AreHeld hs claim.pair.first claim.pair.second) held admitted.admitted.held;
+    few = subst (λ (n : ℕ). flips_of claim.pair.first claim.pair.second ≤ n) flips admitted.admitted.few;
+  };
+  kept = subst (λ (keep : List NamedCondition). IsKept netlist keep claim.pair) keep admitted.kept;
+}
+
+-- a whole has two pins for each input
+pins_whole : (admit : Admitted) (cube : List Trit) (certificates : List Certificate) (nodes : List Node) (count : ℕ) → AreJoined admit cube certificates nodes
+    → All (λ c. length (pins_of c) ≡ count) certificates → (c : Certificate) → Contains certificates c → length cube ≡ count
+pins_whole admit _ _ _ count (alone d) all c has = All-contains (λ e. length (pins_of e) ≡ count) (d ∷ []) d all (0, omega arith, refl)
+pins_whole admit _ _ _ count (missing cube none) all c has = absurd (omega (arith, has.1))
+pins_whole admit _ _ _ count (halved cube certificates position low high some free known lows highs) all c has =
+    elim (bit_of (slice_get (pins_of c) position) (All-contains (is_known_at position) certificates c known has)) [
+      | bit_zero e ↦
+          sym (length-set cube position Zero)
+          ∙ pins_whole admit _ _ low count lows (All-filter (λ d. is_zero (slice_get (pins_of d) position)) (λ d. length (pins_of d) ≡ count) certificates all) c
+          (filter_has (λ d. is_zero (slice_get (pins_of d) position)) certificates c has e)
+      | bit_one e ↦
+          sym (length-set cube position One)
+          ∙ pins_whole admit _ _ high count highs (All-filter (λ d. is_one (slice_get (pins_of d) position)) (λ d. length (pins_of d) ≡ count) certificates all) c
+          (filter_has (λ d. is_one (slice_get (pins_of d) position)) certificates c has e)
+    ]
+
 pub accepted_together : AcceptedTogether
 accepted_together netlist certificates pins whole joined accepted =
-    let from : Certificate = joined.pair.certificate in
-    let alike = All-contains (IsAlike whole) certificates from joined.alike joined.pair.among in
-    let given = All-contains (Accepts netlist) certificates from accepted joined.pair.among in
-    let low : (c : Certificate) → Contains certificates c → c.high ≤ whole.high = λ c has.
-    let closed = All-contains IsClosed certificates c joined.closed has in
-    let less = All-contains (λ d. d.time ≤ whole.time) certificates c joined.greatest has in
-    omega (arith, closed, less, joined.whole_closed) in
+    let from : Certificate = joined.claim.certificate in
+    let most : Option ℕ = high_of whole.claim in
+    let alike = All-contains (IsAlike whole) certificates from joined.alike joined.claim.among in
+    let given = All-contains (Accepts netlist) certificates from accepted joined.claim.among in
+    let low : (c : Certificate) → Contains certificates c → IsLess (high_of c.claim) most = λ c has.
+    less_high c.claim whole.claim (All-contains IsClosed certificates c joined.closed has) joined.whole_closed
+    (All-contains (λ d. IsNotLater d.claim whole.claim) certificates c joined.greatest has) in
     let kept : (c : Certificate) → Contains certificates c → keep_by c.question.terms ≡ keep_by whole.question.terms =
     λ c has. keep_merged whole.question.terms c.question.terms (All-contains (λ d. AreMerged whole.question.terms d.question.terms) certificates c joined.terms has) in
-    let part : (c : Certificate) → Contains certificates c → IsGoodPart (setting_of netlist whole) (asking_of whole.question) whole.high c =
+    let part : (c : Certificate) → Contains certificates c → IsGoodPart (setting_of netlist whole) (asking_of whole.question) most c =
     λ c has. good_part c (All-contains (IsAlike whole) certificates c joined.alike has) (kept c has) (All-contains (Accepts netlist) certificates c accepted has)
     (low c has) in
-    let tree = joined_tree (setting_of netlist whole) (asking_of whole.question) whole.high pins certificates whole.tree joined.tree (All-from_contains (IsGoodPart (setting_of netlist whole) (asking_of whole.question) whole.high) certificates part) in
+    let tree = joined_tree (setting_of netlist whole) (asking_of whole.question) most pins certificates whole.tree joined.tree (All-from_contains (IsGoodPart (setting_of netlist whole) (asking_of whole.question) most) certificates part) in
+    let count : (c : Certificate) → Contains certificates c → length (pins_of c) ≡ 2 * inputs_of whole.question = λ c has.
+    (All-contains (Accepts netlist) certificates c accepted has).size.pins
+    ∙ ap (λ (hs : List Bool). 2 * length hs) (sym (All-contains (IsAlike whole) certificates c joined.alike has).held) in
+    let long : length pins ≡ 2 * inputs_of whole.question =
+    pins_whole whole.question.admit pins certificates whole.tree (2 * inputs_of whole.question) joined.tree
+    (All-from_contains (λ c. length (pins_of c) ≡ 2 * inputs_of whole.question) certificates count) from joined.claim.among in
     record {
-      size = record { inputs = given.size.inputs ∙ ap (λ (hs : List Bool). length hs) (sym alike.held); gates = given.size.gates ∙ sym alike.gates; fit = fits_whole from alike (kept from joined.pair.among) given.size.fit };
-      admitted = subst (λ (p : Pair). IsAskedAbout netlist (asking_of whole.question) p) joined.pair.pair_is (record {
-        admitted = record {
-          pinned = subst (λ (x : List Trit). IsIn from.pair x) (sym joined.pins_are)
-              (parts_inside whole.question.admit pins certificates whole.tree joined.tree from joined.pair.among from.pair given.admitted.admitted.pinned);
-          held = subst (λ (hs : List Bool). AreHeld hs from.pair.first from.pair.second) (sym alike.held) given.admitted.admitted.held;
-          few = subst (λ (n : ℕ). flips_of from.pair.first from.pair.second ≤ n) (sym alike.flips) given.admitted.admitted.few;
-        };
-        kept = subst (λ (keep : List NamedCondition). IsKept netlist keep from.pair) (kept from joined.pair.among) given.admitted.kept;
-      });
-      reached = subst (λ (n : ℕ). IsDelayOfBits (setting_of netlist whole) whole.pair.first whole.pair.second n) joined.pair.time_is
-          (subst (λ (p : Pair). IsDelayOfBits (setting_of netlist whole) p.first p.second from.time) joined.pair.pair_is
-          (subst (λ (ms : List ℕ). IsDelayOfBits (at_moments netlist ms) from.pair.first from.pair.second from.time) (sym alike.moments) given.reached));
+      size = record {
+        inputs = given.size.inputs ∙ ap (λ (hs : List Bool). length hs) (sym alike.held);
+        gates = given.size.gates ∙ sym alike.gates;
+        pins = ap (λ (x : List Trit). length x) joined.pins_are ∙ long;
+        fit = fits_whole from alike (kept from joined.claim.among) given.size.fit;
+      };
+      admitted = subst (ClaimsAdmitted netlist (asking_of whole.question)) joined.claim.claim_is
+          (admitted_whole netlist (asking_of from.question) (asking_of whole.question) from.claim
+          (λ pair h. subst (λ (x : List Trit). IsIn pair x) (sym joined.pins_are) (parts_inside whole.question.admit pins certificates whole.tree joined.tree from joined.claim.among pair h))
+          (sym alike.held) (sym alike.flips) (kept from joined.claim.among) given.admitted);
+      reached = subst (ClaimsDelay (setting_of netlist whole)) joined.claim.claim_is
+          (subst (λ (ms : List ℕ). ClaimsDelay (at_moments netlist ms) from.claim) (sym alike.moments) given.reached);
       tree = subst (λ (ns : List Node). IsTree ns) tree.nodes_are (trees_are_counted.counted tree.tree);
-      good = subst (λ (x : List Trit). AllByRecursion (IsGood (setting_of netlist whole) (asking_of whole.question) whole.high) (lines_from (x ∷ []) whole.tree)) (sym joined.pins_are)
-          (subst (λ (ns : List Node). AllByRecursion (IsGood (setting_of netlist whole) (asking_of whole.question) whole.high) (lines_from (pins ∷ []) ns)) tree.nodes_are
-          (subst (λ (ls : List Line). AllByRecursion (IsGood (setting_of netlist whole) (asking_of whole.question) whole.high) ls) (sym (lines_are_walked tree.tree pins)) tree.good));
+      good = subst (λ (x : List Trit). AllByRecursion (IsGood (setting_of netlist whole) (asking_of whole.question) most) (lines_from (x ∷ []) whole.tree)) (sym joined.pins_are)
+          (subst (λ (ns : List Node). AllByRecursion (IsGood (setting_of netlist whole) (asking_of whole.question) most) (lines_from (pins ∷ []) ns)) tree.nodes_are
+          (subst (λ (ls : List Line). AllByRecursion (IsGood (setting_of netlist whole) (asking_of whole.question) most) ls) (sym (lines_are_walked tree.tree pins)) tree.good));
     }
   where
     fits_whole : (c : Certificate) → IsAlike whole c → keep_by c.question.terms ≡ keep_by whole.question.terms
@@ -260,12 +338,13 @@ accepted_together netlist certificates pins whole joined accepted =
         ap (λ (n : ℕ). are_fit n (keep_by whole.question.terms)) (ap (λ (hs : List Bool). 2 + length hs + whole.gates) alike.held ∙ ap (λ (g : ℕ). 2 + inputs_of c.question + g) alike.gates)
         ∙ ap (are_fit (2 + inputs_of c.question + c.gates)) (sym keep) ∙ fit
 
-    good_part : (c : Certificate) → IsAlike whole c → keep_by c.question.terms ≡ keep_by whole.question.terms → Accepts netlist c → c.high ≤ whole.high → IsGoodPart (setting_of netlist whole) (asking_of whole.question) whole.high c
+    good_part : (c : Certificate) → IsAlike whole c → keep_by c.question.terms ≡ keep_by whole.question.terms → Accepts netlist c → IsLess (high_of c.claim) (high_of whole.claim)
+        → IsGoodPart (setting_of netlist whole) (asking_of whole.question) (high_of whole.claim) c
     good_part c alike keep accepts less = record {
       is_tree = accepts.tree;
-      good = subst (λ (s : Setting). AllByRecursion (IsGood s (same_asking (asking_of whole.question) (pins_of c)) c.high) (lines_from (pins_of c ∷ []) c.tree))
+      good = subst (λ (s : Setting). AllByRecursion (IsGood s (same_asking (asking_of whole.question) (pins_of c)) (high_of c.claim)) (lines_from (pins_of c ∷ []) c.tree))
           (ap (at_moments netlist) (sym alike.moments))
-          (subst (λ (a : Asking). AllByRecursion (IsGood (setting_of netlist c) a c.high) (lines_from (pins_of c ∷ []) c.tree))
+          (subst (λ (a : Asking). AllByRecursion (IsGood (setting_of netlist c) a (high_of c.claim)) (lines_from (pins_of c ∷ []) c.tree))
           (asking_is (asking_of whole.question) c.question.admit (keep_by c.question.terms) alike.held alike.flips keep) accepts.good);
       less = less;
     }

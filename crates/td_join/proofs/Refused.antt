@@ -1,6 +1,6 @@
 -- Where all pairs are admitted, no certificate is accepted that has a leaf without an admitted
 -- pair.
-use Rattle.std.proofs.Common.{◌≡◌, ◌*◌, ℕ, Bool, true, false, List, [], ◌∷◌, length, set, refl, sym, ap, subst, ◌∙◌, arith}
+use Rattle.std.proofs.Common.{◌≡◌, ◌*◌, ℕ, Bool, true, false, Option, List, [], ◌∷◌, length, set, refl, sym, ap, subst, ◌∙◌, arith}
 use Rattle.std.specs.Prelude.{◌==◌, ◌&&◌, ◌||◌, slice_get}
 use Rattle.std.specs.List.{AllByRecursion, list_all}
 use Rattle.std.proofs.lemmas.Bool.{eqb-true, and_parts}
@@ -24,7 +24,7 @@ use Rattle.td_gates.proofs.Places.{none-some}
 use Rattle.td_certificate.specs.Trees.{Tree, nodes_of, lines_of}
 use Rattle.td_certificate.specs.Trees as trees
 use Rattle.td_certificate.specs.Walks.{Line, lines_from}
-use Rattle.td_certificate.specs.Accepts.{IsGood, Accepts, setting_of}
+use Rattle.td_certificate.specs.Accepts.{IsGood, Accepts, setting_of, high_of}
 use Rattle.td_certificate.proofs.TreeLaws.{trees_are_counted}
 use Rattle.td_certificate.proofs.Walking.{lines_are_walked}
 use Rattle.td_join.specs.Joining.{pins_of, says_none, has_none}
@@ -36,7 +36,7 @@ neither : (a b : Bool) → a ≡ false → b ≡ false → (a || b) ≡ false
 neither false b e f = f
 neither true b e f = absurd cc
 
-module _ (setting : Setting) (asking : Asking) (bare : asking.keep ≡ []) (most : ℕ) (fits : length asking.admit.pins ≡ 2 * length asking.admit.held) (free : holds_none asking.admit.held ≡ true)
+module _ (setting : Setting) (asking : Asking) (bare : asking.keep ≡ []) (most : Option ℕ) (fits : length asking.admit.pins ≡ 2 * length asking.admit.held) (free : holds_none asking.admit.held ≡ true)
     (flips : asking.admit.flips ≡ length asking.admit.held) where
   -- a pair of each cube of the pins is admitted
   has_pair : (cube : List Trit) → length cube ≡ length asking.admit.pins → ((pair : Pair) → IsIn pair cube → IsIn pair asking.admit.pins) → HasAdmitted asking.admit cube
@@ -77,8 +77,8 @@ refused question c netlist first held flips bare fit none accepts =
     let t = trees_are_counted.has_tree c.tree accepts.tree in
     let walked : lines_from (pins_of c ∷ []) c.tree ≡ lines_of (pins_of c) t.0 =
     ap (λ (ns : List Node). lines_from (pins_of c ∷ []) ns) (sym t.1) ∙ lines_are_walked t.0 (pins_of c) in
-    let never = good_none (setting_of netlist c) (asking_of c.question) bare c.high fit (subst (λ (hs : List Bool). holds_none hs ≡ true) held two.0)
+    let never = good_none (setting_of netlist c) (asking_of c.question) bare (high_of c.claim) fit (subst (λ (hs : List Bool). holds_none hs ≡ true) held two.0)
     (sym flips ∙ eqb-true question.admit.flips (length question.admit.held) two.1 ∙ ap (λ (hs : List Bool). length hs) held)
-    t.0 (pins_of c) refl (λ pair h. h) (subst (λ (ls : List Line). AllByRecursion (IsGood (setting_of netlist c) (asking_of c.question) c.high) ls) walked accepts.good) in
+    t.0 (pins_of c) refl (λ pair h. h) (subst (λ (ls : List Line). AllByRecursion (IsGood (setting_of netlist c) (asking_of c.question) (high_of c.claim)) ls) walked accepts.good) in
     let clash : true ≡ false = sym none ∙ ap (λ (ns : List Node). has_none ns) (sym t.1) ∙ never in
     absurd cc

@@ -18,11 +18,12 @@ use Rattle.td_certificate.specs.declared.tree.Node.TheVariants as node
 use Rattle.td_certificate.specs.declared.question.Version.{Version}
 use Rattle.td_certificate.specs.declared.question.Version.TheVariants.{First, Second, Third, Fourth}
 use Rattle.td_certificate.specs.declared.certificate.Certificate.{Certificate}
+use Rattle.td_certificate.specs.declared.certificate.Claim.{Claim}
 use Rattle.td_certificate.specs.Questions.{Terms, Question, inputs_of, is_free, holds_none, admits_all, is_at_once, version_by, version_of}
-use Rattle.td_certificate.specs.Spelling.{HasSpelling, IsNode, AreTerms, version_in, latest}
+use Rattle.td_certificate.specs.Spelling.{HasSpelling, MayClaim, IsNode, AreTerms, version_in, latest}
 use Rattle.td_certificate.specs.Trees.{IsTree}
 use Rattle.td_certificate.proofs.Told.{one_moment}
-use Rattle.td_join.specs.Joining.{pins_of, is_zero, is_one, has_none, AreJoined, alone, missing, halved, AreMerged, IsAlike, IsJoined}
+use Rattle.td_join.specs.Joining.{pins_of, is_zero, is_one, has_none, AreJoined, alone, missing, halved, AreMerged, IsClosedClaim, IsAlike, IsJoined}
 
 -- ---- where all pairs are admitted, one lies in each cube
 
@@ -190,14 +191,25 @@ joined_nodes admit version fits _ _ _ few long none all (halved cube certificate
 
 -- ---- the whole
 
+-- a text of another version can tell what is claimed
+told_claim : (mine other : Version) (count inputs : ℕ) (claim : Option Claim) → (mine ≡ Fourth → other ≡ Fourth) → count ≡ inputs → IsClosedClaim claim → MayClaim mine count claim
+    → MayClaim other inputs claim
+told_claim mine other count inputs None fourth same closed may = fourth may
+told_claim mine other count inputs (Some claim) fourth same closed may = record {
+  time = may.time;
+  high = one_moment other claim.time claim.high closed may.time;
+  first = may.first ∙ same;
+  second = may.second ∙ same;
+}
+
 pub spelled_together : (certificates : List Certificate) (pins : List Trit) (whole : Certificate) → IsJoined certificates pins whole
     → length whole.question.admit.pins ≡ 2 * inputs_of whole.question
     → (version_of whole.question ≡ First → All (λ c. has_none c.tree ≡ false) certificates) → IsTree whole.tree
     → All HasSpelling certificates → HasSpelling whole
 spelled_together certificates pins whole joined fits reported tree all =
-    let from : Certificate = joined.pair.certificate in
-    let alike = All-contains (IsAlike whole) certificates from joined.alike joined.pair.among in
-    let given = All-contains HasSpelling certificates from all joined.pair.among in
+    let from : Certificate = joined.claim.certificate in
+    let alike = All-contains (IsAlike whole) certificates from joined.alike joined.claim.among in
+    let given = All-contains HasSpelling certificates from all joined.claim.among in
     let same : inputs_of whole.question ≡ inputs_of from.question = ap (λ (hs : List Bool). length hs) alike.held in
     let few : length whole.question.admit.pins ≤ 8192 = omega (arith, fits, same, given.inputs) in
     let merged = λ (c : Certificate) (has : Contains certificates c). All-contains (λ d. AreMerged whole.question.terms d.question.terms) certificates c joined.terms has in
@@ -210,10 +222,8 @@ spelled_together certificates pins whole joined fits reported tree all =
       count = ap (λ (ms : List ℕ). length ms) alike.moments ∙ given.count ∙ sym same;
       moments = subst (λ (ms : List ℕ). AllByRecursion (λ moment. moment ≤ latest) ms) (sym alike.moments) given.moments;
       terms = subst AreTerms joined.told.terms_are teller.terms;
-      time = omega (arith, joined.pair.time_is, given.time);
-      high = one_moment (version_in whole) whole.time whole.high joined.whole_closed (omega (arith, joined.pair.time_is, given.time));
-      first = ap (λ (p : Pair). length p.first) (sym joined.pair.pair_is) ∙ given.first ∙ sym same;
-      second = ap (λ (p : Pair). length p.second) (sym joined.pair.pair_is) ∙ given.second ∙ sym same;
+      claim = told_claim (version_in from) (version_in whole) (inputs_of from.question) (inputs_of whole.question) whole.claim (merged_fourth whole.question from.question (merged from joined.claim.among))
+          (sym same) joined.whole_closed (subst (MayClaim (version_in from) (inputs_of from.question)) joined.claim.claim_is given.claim);
       nodes = joined_nodes whole.question.admit (version_in whole) (length whole.question.admit.pins) pins certificates whole.tree few
           (ap (λ (cube : List Trit). length cube) (sym joined.pins_are))
           (λ other long none first. none (each_has whole.question.admit other (all_admitted whole.question first) fits long))

@@ -1,15 +1,15 @@
 -- The certificate of the whole.
-use Rattle.std.proofs.Common.{◌≡◌, ◌<◌, ◌≤◌, ℕ, List, length, Some, inl, inr, refl, sym, ap, subst, ◌∙◌}
+use Rattle.std.proofs.Common.{◌≡◌, ◌<◌, ◌≤◌, ℕ, List, length, Option, Some, inl, inr, refl, sym, ap, subst, ◌∙◌}
 use Rattle.std.specs.Prelude.{All, Contains, slice_get}
 use Rattle.std.proofs.lemmas.List.Elements.{All-weaker, All-contains}
 use Rattle.td_domain.specs.declared.cubes.Trit.{Trit}
-use Rattle.td_domain.specs.Pairs.{Pair}
 use Rattle.td_certificate.specs.declared.tree.Node.{Node}
 use Rattle.td_certificate.specs.declared.certificate.Certificate.{Certificate}
+use Rattle.td_certificate.specs.declared.certificate.Claim.{Claim}
 use Rattle.td_certificate.specs.declared.question.Version.TheVariants.{First}
 use Rattle.td_certificate.specs.Questions.{Question, version_of, keep_by}
 use Rattle.td_gates.proofs.Places.{slice_get-Contains, slice_get-within}
-use Rattle.td_join.specs.Joining.{with_pins, AreJoined, AreMerged, HasTerms, IsClosed, IsAlike, IsJoined}
+use Rattle.td_join.specs.Joining.{with_pins, AreJoined, AreMerged, HasTerms, IsClosed, IsClosedClaim, IsNotLater, IsAlike, IsJoined}
 use Rattle.td_domain.specs.Admits.{Admitted}
 use Rattle.td_join.specs.declared.fault.JoinFault.{JoinFault}
 use Rattle.td_join.specs.declared.fault.JoinFault.TheVariants as fault
@@ -20,27 +20,29 @@ use Rattle.td_join.proofs.Refused.{refused}
 use Rattle.td_join.proofs.Spelled.{no_terms}
 use Rattle.td_join.proofs.Pinned.{same_pairs}
 
-abbrev pub whole_of : ℕ → Question → ℕ → ℕ → Pair → List Node → Certificate
-whole_of gates question time high pair tree = record { gates = gates; question = question; time = time; high = high; pair = pair; tree = tree }
+abbrev pub whole_of : ℕ → Question → Option Claim → List Node → Certificate
+whole_of gates question claim tree = record { gates = gates; question = question; claim = claim; tree = tree }
 
-pub is_joined : (certificates : List Certificate) (gates : ℕ) (question : Question) (first : Certificate) (place : ℕ) (pair : Pair) (tree nodes : List Node)
-    → slice_get certificates place ≡ Some first → All (IsOfQuestion gates question) certificates → All (λ c. c.time ≤ first.time) certificates
-    → pair ≡ first.pair → nodes ≡ tree → AreJoined question.admit question.admit.pins certificates tree
+pub is_joined : (certificates : List Certificate) (gates : ℕ) (question : Question) (first : Certificate) (place : ℕ) (claim : Option Claim) (tree nodes : List Node)
+    → slice_get certificates place ≡ Some first → All (IsOfQuestion gates question) certificates → All (λ c. IsNotLater c.claim first.claim) certificates
+    → claim ≡ first.claim → nodes ≡ tree → AreJoined question.admit question.admit.pins certificates tree
     → All (λ c. AreMerged question.terms c.question.terms) certificates → HasTerms certificates question.terms
     → All IsClosed certificates
-    → IsJoined certificates question.admit.pins (whole_of gates question first.time first.time pair nodes)
-is_joined certificates gates question first place pair tree nodes at alike greatest copied same joined terms told closed = record {
-  alike = All-weaker (IsOfQuestion gates question) (IsAlike (whole_of gates question first.time first.time pair nodes))
-      (λ c h. record { gates = h.gates_are; held = h.held; flips = h.flips; moments = h.moments }) certificates alike;
-  pins_are = refl;
-  tree = subst (λ (ns : List Node). AreJoined question.admit question.admit.pins certificates ns) (sym same) joined;
-  greatest = greatest;
-  pair = record { certificate = first; among = slice_get-Contains certificates place first at; time_is = refl; pair_is = sym copied };
-  terms = terms;
-  told = told;
-  closed = closed;
-  whole_closed = refl;
-}
+    → IsJoined certificates question.admit.pins (whole_of gates question claim nodes)
+is_joined certificates gates question first place claim tree nodes at alike greatest copied same joined terms told closed =
+    let among = slice_get-Contains certificates place first at in
+    record {
+      alike = All-weaker (IsOfQuestion gates question) (IsAlike (whole_of gates question claim nodes))
+          (λ c h. record { gates = h.gates_are; held = h.held; flips = h.flips; moments = h.moments }) certificates alike;
+      pins_are = refl;
+      tree = subst (λ (ns : List Node). AreJoined question.admit question.admit.pins certificates ns) (sym same) joined;
+      greatest = subst (λ (it : Option Claim). All (λ c. IsNotLater c.claim it) certificates) (sym copied) greatest;
+      claim = record { certificate = first; among = among; claim_is = sym copied };
+      terms = terms;
+      told = told;
+      closed = closed;
+      whole_closed = subst IsClosedClaim (sym copied) (All-contains IsClosed certificates first closed among);
+    }
 
 -- ---- faults
 
@@ -58,9 +60,9 @@ module _ (certificates : List Certificate) (gates : ℕ) (question : Question) (
 
   unjoinable : (¬ IsJoinable question.admit question.admit.pins certificates) → IsUnjoinable certificates question.admit.pins
   unjoinable none whole joined =
-      let c = joined.pair.certificate in
-      let mine = of_first c joined.pair.among in
-      let yours = All-contains (IsAlike whole) certificates c joined.alike joined.pair.among in
+      let c = joined.claim.certificate in
+      let mine = of_first c joined.claim.among in
+      let yours = All-contains (IsAlike whole) certificates c joined.alike joined.claim.among in
       let same : whole.question.admit ≡ question.admit =
       same_admit whole.question.admit c.question.admit yours.held yours.flips
       ∙ ap (λ (x : List Trit). same_pairs c.question.admit x) joined.pins_are ∙ sym mine in

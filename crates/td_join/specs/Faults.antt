@@ -13,7 +13,7 @@ use Rattle.td_certificate.specs.Questions.{inputs_of, version_of}
 use Rattle.td_certificate.specs.Accepts.{Accepts}
 use Rattle.td_join.specs.declared.fault.JoinFault.{JoinFault}
 use Rattle.td_join.specs.declared.fault.JoinFault.TheVariants as fault
-use Rattle.td_join.specs.Joining.{pins_of, with_pins, has_none, zeros, ones, AreKnownAt, AreMerged, IsJoined}
+use Rattle.td_join.specs.Joining.{pins_of, with_pins, has_none, zeros, ones, AreKnownAt, AreMerged, IsClosedClaim, IsJoined}
 
 -- the fault with each certificate that it tells told by this in its place
 abbrev pub renamed : {A B : Type 0} → (A → B) → JoinFault A → JoinFault B
@@ -64,9 +64,9 @@ pub record IsOtherTermsIn (certificates : List Certificate) (reported : JoinFaul
   pub other_at : slice_get certificates place ≡ Some other
   pub unlike : IsOtherTerms first at other place reported
 
--- a certificate tells no worst delay: its two moments aren't one
+-- a certificate tells no worst delay: the two moments that it claims aren't one
 abbrev pub IsOpen : Certificate → ℕ → JoinFault ℕ → Type 0
-IsOpen certificate place (fault.Open this) = (this ≡ place) × (certificate.high ≢ certificate.time)
+IsOpen certificate place (fault.Open this) = (this ≡ place) × (¬ IsClosedClaim certificate.claim)
 IsOpen certificate place fault = ⊥
 
 pub record IsOpenIn (certificates : List Certificate) (reported : JoinFault ℕ) : Type 0 where

@@ -10,6 +10,7 @@ use Rattle.td_domain.specs.Admits.{Admitted, HasAdmitted}
 use Rattle.td_certificate.specs.declared.tree.Node.{Node}
 use Rattle.td_certificate.specs.declared.tree.Node.TheVariants as node
 use Rattle.td_certificate.specs.declared.certificate.Certificate.{Certificate}
+use Rattle.td_certificate.specs.declared.certificate.Claim.{Claim}
 use Rattle.td_certificate.specs.Cubes.{zero_side, one_side}
 use Rattle.td_certificate.specs.Questions.{Terms, Question, keep_by}
 use Rattle.td_certificate.specs.Accepts.{Accepts}
@@ -89,26 +90,39 @@ pub record HasTerms (certificates : List Certificate) (terms : Option Terms) : T
   pub among : Contains certificates certificate
   pub terms_are : certificate.question.terms ≡ terms
 
--- the certificate's two moments are one: its time is the worst delay
-abbrev pub IsClosed : Certificate → Type 0
-IsClosed c = c.high ≡ c.time
+-- the two moments that are claimed are one: the time is the worst delay; or no pair is claimed
+abbrev pub IsClosedClaim : Option Claim → Type 0
+IsClosedClaim None = Unit {0}
+IsClosedClaim (Some claim) = claim.high ≡ claim.time
 
--- some certificate has this time and this pair
-pub record HasPair (certificates : List Certificate) (time : ℕ) (pair : Pair) : Type 0 where
+abbrev pub IsClosed : Certificate → Type 0
+IsClosed c = IsClosedClaim c.claim
+
+-- a claim's time is at most that of another one; one that no pair is admitted is at most any
+abbrev pub IsNotLater : Option Claim → Option Claim → Type 0
+IsNotLater None that = Unit {0}
+IsNotLater (Some this) None = ⊥
+IsNotLater (Some this) (Some that) = this.time ≤ that.time
+
+abbrev pub time_of : Option Claim → Option ℕ
+time_of None = None
+time_of (Some claim) = Some claim.time
+
+-- some certificate claims this
+pub record HasClaim (certificates : List Certificate) (claim : Option Claim) : Type 0 where
   pub certificate : Certificate
   pub among : Contains certificates certificate
-  pub time_is : certificate.time ≡ time
-  pub pair_is : certificate.pair ≡ pair
+  pub claim_is : certificate.claim ≡ claim
 
 -- The certificates are joined into one with these pins. It is of the same circuit and question but
--- for the pins, and tells the terms that one of them tells; its tree is theirs joined, and its time
--- the greatest of theirs, with a pair of one that has it.
+-- for the pins, and tells the terms that one of them tells; its tree is theirs joined, and it claims
+-- what one of them does whose time is the greatest of theirs.
 pub record IsJoined (certificates : List Certificate) (pins : List Trit) (whole : Certificate) : Type 0 where
   pub alike : All (IsAlike whole) certificates
   pub pins_are : pins_of whole ≡ pins
   pub tree : AreJoined whole.question.admit pins certificates whole.tree
-  pub greatest : All (λ c. c.time ≤ whole.time) certificates
-  pub pair : HasPair certificates whole.time whole.pair
+  pub greatest : All (λ c. IsNotLater c.claim whole.claim) certificates
+  pub claim : HasClaim certificates whole.claim
   pub terms : All (λ c. AreMerged whole.question.terms c.question.terms) certificates
   pub told : HasTerms certificates whole.question.terms
   pub closed : All IsClosed certificates
@@ -147,4 +161,4 @@ AcceptedTogether = (netlist : Netlist) (certificates : List Certificate) (pins :
 -- the time of the whole is the same in whatever order its parts come
 abbrev pub SameTime : Type 0
 SameTime = (these those : List Certificate) (pins others : List Trit) (this that : Certificate) → IsPermutation these those
-    → IsJoined these pins this → IsJoined those others that → this.time ≡ that.time
+    → IsJoined these pins this → IsJoined those others that → time_of this.claim ≡ time_of that.claim

@@ -1,13 +1,14 @@
 //! Joining certificates.
 
-ghost use Rattle.std.specs.Prelude.{◌≡◌, ◌<◌, ◌≤◌, List, IfOk, IfErr, All, length, slice_get, Some};
+ghost use Rattle.std.specs.Prelude.{◌≡◌, ◌<◌, ◌≤◌, true, false, List, IfOk, IfErr, All, length, slice_get, Some};
 ghost use Rattle.td_nets.specs.Netlist.{Netlist};
 ghost use Rattle.td_domain.specs.declared.cubes.Trit.{Trit};
 ghost use Rattle.td_certificate.specs.declared.certificate.Certificate.{Certificate as Reported};
 ghost use Rattle.td_certificate.specs.Accepts.{Accepts};
 ghost use Rattle.td_certificate.specs.Spelling.{HasSpelling};
 ghost use Rattle.td_certificate.specs.Trees.{IsTree};
-ghost use Rattle.td_join.specs.Joining.{pins_of, whole_question, AreMerged, HasTerms, IsClosed, IsAlike, IsJoined, hull};
+ghost use Rattle.td_join.specs.Joining.{pins_of, whole_question, AreMerged, HasTerms, IsClosed, IsNotLater, IsAlike, IsJoined, hull};
+ghost use Rattle.td_join.specs.Claims.{IsBelow, IsAtMost};
 ghost use Rattle.td_join.specs.Faults.{IsInside, IsJoinFault};
 ghost use Rattle.td_join.specs.Steps.{HasFit};
 ghost use Rattle.td_join.specs.Stacks.{IsOfQuestion};
@@ -20,18 +21,54 @@ use crate::nones::without_false_none;
 use crate::parts::numbered;
 use crate::terms::merged_terms;
 use std::alloc::{AllocError, Global};
-use td_certificate::{Certificate, Question, Terms, Tree};
+use td_certificate::{Certificate, Claim, Question, Terms, Tree};
 use td_domain::{Admit, Cube};
+
+/// Whether a claim's time is above that of another one.
+fn is_later(this: &Option<Claim>, that: &Option<Claim>) -> bool
+    ensures later { result ≡ true → IsNotLater that.now this.now }
+    ensures not_later { result ≡ false → IsNotLater this.now that.now }
+{
+    match this {
+        None => false,
+        Some(this) => is_above(this.time, that),
+    }
+}
+
+/// Whether a time is above that of a claim.
+fn is_above(time: u64, that: &Option<Claim>) -> bool
+    ensures above { result ≡ true → IsBelow that.now time }
+    ensures not_above { result ≡ false → IsAtMost time that.now }
+{
+    match that {
+        None => true,
+        Some(that) => time > that.time,
+    }
+}
+
+/// The claim, copied. The error is out of memory.
+fn copied(alloc: Global, claim: &Option<Claim>) -> Result<Option<Claim>, AllocError>
+    ensures { IfOk result (λ copy. copy ≡ claim.now) }
+{
+    match claim {
+        None => Ok(None),
+        Some(claim) => Ok(Some(Claim {
+            time: claim.time,
+            high: claim.high,
+            pair: claim.pair.copy(alloc)?,
+        })),
+    }
+}
 
 /// The place of a certificate with the greatest time.
 fn greatest(certificates: &[Certificate]) -> usize
     requires { 0 < length certificates.now }
     ensures within { result < length certificates.now }
-    ensures greatest { (worst : Reported) → slice_get certificates.now result ≡ Some worst → All (λ c. c.time ≤ worst.time) certificates.now }
+    ensures greatest { (worst : Reported) → slice_get certificates.now result ≡ Some worst → All (λ c. IsNotLater c.claim worst.claim) certificates.now }
 {
     let mut greatest = 0;
     for (place, certificate) in certificates.iter().enumerate() {
-        if certificate.time > certificates[greatest].time {
+        if is_later(&certificate.claim, &certificates[greatest].claim) {
             greatest = place;
         }
     }
@@ -63,16 +100,13 @@ fn join_alike(
     // For the prover: this call says that there are two pins for each input.
     let _fit = admit.pins();
     let first = &certificates[greatest(&certificates)];
-    let time = first.time;
-    let pair = first.pair.copy(alloc)?;
+    let claim = copied(alloc, &first.claim)?;
     let parts = numbered(alloc, certificates)?;
     let nodes = joined_nodes(alloc, admit, parts)?;
     Ok(Certificate {
         gates,
         question,
-        time,
-        high: time,
-        pair,
+        claim,
         tree: Tree::from_nodes(nodes),
     })
 }
@@ -121,7 +155,8 @@ fn question_with(
 ///
 /// # Errors
 ///
-/// One that is there of: no certificate; one that isn't as the first; one that tells no worst delay;
+/// One that is there of: no certificate; one that isn't as the first; one that tells neither a worst delay nor that no
+/// pair is admitted;
 /// one whose pins aren't a part of these; two that tell other terms; a leaf of one that says that no
 /// admitted pair lies in its cube, where all pairs are admitted; what keeps them from being joined.
 /// `OutOfMemory` where a growth was refused.

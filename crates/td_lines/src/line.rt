@@ -123,6 +123,8 @@ pub enum Line {
         low: u64,
         high: u64,
     },
+    /// No pair is admitted.
+    NoPair,
     /// Why it isn't exact.
     Cause(Cause),
     /// The first vector of a pair.
@@ -143,6 +145,8 @@ pub enum Line {
         time: u64,
         high: u64,
     },
+    /// Where it claims that no pair is admitted.
+    AcceptedNone,
     /// The delays of gates that state none, in steps, of a certificate.
     Default {
         rise: u64,

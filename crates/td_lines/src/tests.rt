@@ -101,6 +101,7 @@ fn searched(alloc: Global) -> Result<Report, AllocError> {
     let mut report = Report::new(alloc);
     report.add(Line::Exact(5))?;
     report.add(Line::Between { low: 2, high: 5 })?;
+    report.add(Line::NoPair)?;
     report.add(Line::Cause(Cause::Budget))?;
     report.add(Line::From(bits(alloc, &[false, true])?))?;
     report.add(Line::To(bits(alloc, &[])?))?;
@@ -156,6 +157,7 @@ fn checked(alloc: Global) -> Result<Report, AllocError> {
 fn told(alloc: Global) -> Result<Report, AllocError> {
     let mut report = Report::new(alloc);
     report.add(Line::AcceptedBetween { time: 2, high: 5 })?;
+    report.add(Line::AcceptedNone)?;
     report.add(Line::Default { rise: 1, fall: 3 })?;
     report.add(Line::OutputNumber(None))?;
     report.add(Line::OutputNumber(Some(4)))?;
@@ -214,9 +216,10 @@ fn prints_a_search(rt: HostRuntime) -> Result<(), Fail> {
         &rt,
         rt.alloc(),
         &report,
-        "exact 5\nbetween 2 5\ncause budget\nfrom 01\nto none\nnodes 9\neach y exact 5 edges 7\n\
+        "exact 5\nbetween 2 5\nno admitted pair\ncause budget\nfrom 01\nto none\nnodes 9\neach y exact 5 edges 7\n\
 each exact between 2 5 edges none\n--first 0.\n",
-        "{\"exact\":5,\"between\":[2,5],\"cause\":\"budget\",\"from\":\"01\",\"to\":\"none\",\"nodes\":9,\
+        "{\"exact\":5,\"between\":[2,5],\"no\":\"admitted pair\",\"cause\":\"budget\",\"from\":\"01\",\
+\"to\":\"none\",\"nodes\":9,\
 \"each\":[[\"y\",\"exact\",5,\"edges\",7],[\"exact\",\"between\",2,5,\"edges\",null]],\
 \"parts\":[[\"--first\",\"0.\"]]}\n",
     )
@@ -243,8 +246,9 @@ fn prints_what_is_told(rt: HostRuntime) -> Result<(), Fail> {
         &rt,
         rt.alloc(),
         &report,
-        "accepted between 2 5\ndefault 1 3\noutput all\noutput 4\nkeep 2 01 5 ==\n",
-        "{\"accepted\":null,\"default\":\"1 3\",\"output\":[\"all\"],\"output\":[[4]],\
+        "accepted between 2 5\naccepted none\ndefault 1 3\noutput all\noutput 4\nkeep 2 01 5 ==\n",
+        "{\"accepted\":null,\"accepted\":null,\"default\":\"1 3\",\"output\":[\"all\"],\
+\"output\":[[4]],\
 \"keep\":\"2 01 5 ==\"}\n",
     )
 }

@@ -20,6 +20,7 @@ use Rattle.td_spans.specs.declared.times.Times.{Times}
 use Rattle.td_spans.specs.declared.variable.Variable.{Variable}
 use Rattle.td_spans.specs.declared.variable.Variable.TheVariants as variable
 use Rattle.td_spans.specs.Conditions.{Asked}
+use Rattle.td_spans.specs.Endings.{ends_empty}
 use Rattle.td_spans.specs.Hints.{shown_at}
 use Rattle.td_spans.specs.Lookups.{net_named, driver}
 use Rattle.td_spans.specs.Lowering.{lower, again, latest_of}
@@ -35,6 +36,7 @@ use Rattle.td_refutation.specs.Lines.{Step, Deed, NoDeed, Having, Naming, Showin
 use Rattle.td_refutation.specs.declared.conditions.NamedCondition.{NamedCondition}
 use Rattle.td_refutation.specs.Asking.{Asking, condition_on, condition_in, conditions_in, asked_in}
 use Rattle.td_refutation.specs.Whole.{IsOfSetting, AreAllGood, last_state, latest_after, IsFirstBad}
+use Rattle.td_refutation.specs.Emptied.{EmptiedHasOneVerdict}
 use Rattle.td_refutation.specs.Numberings.{IsSameQuestion, IsSameState, OneVerdict, LeafHasOneVerdict}
 use Rattle.td_refutation.proofs.Asking.{comes_from, net_is_at}
 use Rattle.td_refutation.proofs.States.{state_with}
@@ -468,4 +470,21 @@ leaf_has_one_verdict = record {
   one_bad_step = λ given asking cube steps place place' flaw flaw' whole bad bad'.
       one_verdict.first given bad.circuit bad'.circuit (asked_in bad.circuit asking) (asked_in bad'.circuit asking) cube steps place place' flaw flaw'
       bad.of_setting bad'.of_setting (same_asked given bad.circuit bad'.circuit bad.of_setting bad'.of_setting asking) whole bad.first bad'.first;
+}
+
+pub emptied_has_one_verdict : EmptiedHasOneVerdict
+emptied_has_one_verdict = record {
+  emptied_or_not = λ given asking cube steps whole emptied kept.
+      let same = one_verdict.good given emptied.circuit kept.circuit (asked_in emptied.circuit asking) (asked_in kept.circuit asking) cube steps
+      emptied.of_setting kept.of_setting (same_asked given emptied.circuit kept.circuit emptied.of_setting kept.of_setting asking) whole emptied.good in
+      absurd (let wrong : true ≡ false = sym emptied.empty ∙ sym (ap ends_empty same.1.clauses) ∙ kept.filled in cc);
+  emptied_or_bad = λ given asking cube steps place flaw whole emptied bad.
+      one_verdict.bad given bad.circuit emptied.circuit (asked_in bad.circuit asking) (asked_in emptied.circuit asking) cube steps place flaw bad.of_setting
+      emptied.of_setting (same_asked given bad.circuit emptied.circuit bad.of_setting emptied.of_setting asking) whole bad.first emptied.good;
+  not_or_bad = λ given asking cube steps place flaw whole kept bad.
+      one_verdict.bad given bad.circuit kept.circuit (asked_in bad.circuit asking) (asked_in kept.circuit asking) cube steps place flaw bad.of_setting
+      kept.of_setting (same_asked given bad.circuit kept.circuit bad.of_setting kept.of_setting asking) whole bad.first kept.good;
+  good_or_bad = λ given asking cube steps place flaw whole all bad.
+      one_verdict.bad given bad.circuit all.circuit (asked_in bad.circuit asking) (asked_in all.circuit asking) cube steps place flaw bad.of_setting
+      all.of_setting (same_asked given bad.circuit all.circuit bad.of_setting all.of_setting asking) whole bad.first all.good;
 }

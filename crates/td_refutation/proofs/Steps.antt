@@ -1,6 +1,6 @@
 -- Steps: good lines, one after another, keep what is true of the runs.
-use Rattle.std.proofs.Common.{◌≡◌, true, false, List, [], ◌∷◌, ◌++◌, length, refl, ap, subst, arith}
-use Rattle.td_circuit.specs.Settings.{Setting}
+use Rattle.std.proofs.Common.{◌≡◌, ◌*◌, true, false, List, [], ◌∷◌, ◌++◌, length, refl, ap, subst, arith}
+use Rattle.td_circuit.specs.Settings.{Setting, AreMoments}
 use Rattle.td_circuit.specs.Numbering.{Numbered, setting}
 use Rattle.td_domain.specs.declared.cubes.Trit.{Trit}
 use Rattle.td_domain.proofs.Changing.{vectors_in}
@@ -11,12 +11,14 @@ use Rattle.td_spans.specs.Conditions.{Asked}
 use Rattle.td_spans.specs.Signals.{first_times}
 use Rattle.td_spans.specs.Refuting.{Refutes}
 use Rattle.td_spans.specs.Laws.{IsAsked}
+use Rattle.td_spans.proofs.Bounding.{empty_none}
 use Rattle.td_spans.proofs.Steps.{first_refutes, steps_refute, refuted_bounds}
 use Rattle.td_refutation.specs.Doing.{State, first_state, IsGood, after, AreGood, state_to}
 use Rattle.td_refutation.specs.Lines.{Step, Deed, NoDeed, Having, Naming, Showing, Lowering, Retaking, deed_of}
-use Rattle.td_refutation.specs.Asking.{asked_in}
-use Rattle.td_refutation.specs.Refuting.{IsUpperBoundOf}
-use Rattle.td_refutation.specs.Whole.{RefutedIsBounded}
+use Rattle.td_refutation.specs.Asking.{Asking, asked_in}
+use Rattle.td_refutation.specs.Refuting.{IsUpperBoundOf, HasNoPair}
+use Rattle.td_refutation.specs.Whole.{IsOfSetting, AreAllGood, last_state, RefutedIsBounded}
+use Rattle.td_refutation.specs.Emptied.{EmptiedHasNoPair}
 use Rattle.td_refutation.proofs.Asking.{kept_in}
 
 -- Before the first step the times are the first ones, and there are no clauses; always they are true
@@ -85,3 +87,25 @@ refuted_is_bounded given asking cube steps bound fit helds count refuted =
     let under = refuted_bounds circuit asked cube last.variables fits last.times last.clauses kept.refutes pair delay
     (record { admitted = about.admitted; kept = kept_in circuit fits.numbering asking.keep pair long.0 long.1 about.kept }) is_in is_delay in
     omega (arith, under, refuted.within))
+
+-- the lists fit the circuit of a setting
+fits_of : (given : Setting) (circuit : Numbered) (asking : Asking) (cube : List Trit) → IsOfSetting given circuit → AreMoments given.netlist given.moments
+    → length asking.admit.held ≡ length given.netlist.inputs → length cube ≡ 2 * length given.netlist.inputs → IsAsked circuit (asked_in circuit asking) cube
+fits_of given circuit asking cube of fit helds count =
+    let net_is : circuit.netlist ≡ given.netlist = ap (λ (s : Setting). s.netlist) of.is in
+    let moments_are : circuit.moments ≡ given.moments = ap (λ (s : Setting). s.moments) of.is in
+    record { numbering = of.numbering; moments = rw (net_is, moments_are) fit; whole = rw net_is count; held = rw net_is helds }
+
+-- where the last clause is empty, no pair of the cube is asked about
+pub emptied_has_no_pair : EmptiedHasNoPair
+emptied_has_no_pair given asking cube steps fit helds count emptied =
+    let circuit : Numbered = emptied.circuit in
+    let asked : Asked = asked_in circuit asking in
+    let fits = fits_of given circuit asking cube emptied.of_setting fit helds count in
+    let last : State = state_to circuit (first_state circuit asked cube) steps in
+    let kept = kept_to circuit asked cube fits steps (first_state circuit asked cube) emptied.good (kept_first circuit asked cube fits) in
+    subst (λ (s : Setting). HasNoPair s asking cube) emptied.of_setting.is
+    (λ pair about is_in.
+    let long = vectors_in (length circuit.netlist.inputs) cube pair.first pair.second fits.whole is_in in
+    empty_none circuit fits.numbering fits.moments cube fits.whole asked last.variables last.times last.clauses kept.refutes emptied.empty pair
+    (record { admitted = about.admitted; kept = kept_in circuit fits.numbering asking.keep pair long.0 long.1 about.kept }) is_in)

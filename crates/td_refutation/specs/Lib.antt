@@ -4,4 +4,5 @@ pub mod Doing
 pub mod Lowers
 pub mod Refuting
 pub mod Whole
+pub mod Emptied
 pub mod Numberings

@@ -12,3 +12,7 @@ pub use Rattle.td_refutation.specs.Asking.{all_admitted}
 abbrev pub IsUpperBoundOf : Setting → Asking → List Trit → ℕ → Type 0
 IsUpperBoundOf setting asking cube moment = (pair : Pair) (delay : ℕ) → IsAskedAbout setting.netlist asking pair → IsIn pair cube
     → IsDelayOfBits setting pair.first pair.second delay → delay ≤ moment
+
+-- no pair that is asked about lies in the cube
+abbrev pub HasNoPair : Setting → Asking → List Trit → Type 0
+HasNoPair setting asking cube = (pair : Pair) → IsAskedAbout setting.netlist asking pair → IsIn pair cube → ⊥

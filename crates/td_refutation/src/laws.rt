@@ -1,6 +1,7 @@
 //! Laws of the definitions. These functions run nothing.
 
 ghost use Rattle.td_refutation.specs.Whole.{RefutedIsBounded};
+ghost use Rattle.td_refutation.specs.Emptied.{EmptiedHasNoPair, EmptiedHasOneVerdict};
 ghost use Rattle.td_refutation.specs.Numberings.{OneVerdict, LeafHasOneVerdict};
 
 /// Where lines are good in the refutation of a cube, and after them no output may change later than
@@ -18,4 +19,16 @@ pub fn one_verdict()
 /// of these.
 pub fn leaf_has_one_verdict()
     ensures { LeafHasOneVerdict }
+{}
+
+/// Where lines are good in the refutation of a cube, and the last clause after them is empty, no
+/// pair of the cube is asked about.
+pub fn emptied_has_no_pair()
+    ensures { EmptiedHasNoPair }
+{}
+
+/// A leaf's last clause is empty, or it isn't, or the leaf has a bad step, and no two of these; its
+/// steps are good, or it has a bad one, and not both.
+pub fn emptied_has_one_verdict()
+    ensures { EmptiedHasOneVerdict }
 {}

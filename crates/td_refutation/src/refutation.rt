@@ -29,6 +29,7 @@ pub struct Refutation {
 impl Refutation {
     ghost use Rattle.std.specs.Prelude.{◌≡◌, ◌*◌, length, IfOk};
     ghost use Rattle.td_circuit.specs.Numbering.{setting};
+    ghost use Rattle.td_spans.specs.Endings.{ends_empty};
     ghost use Rattle.td_spans.specs.Lowering.{latest_of};
     ghost use Rattle.td_refutation.specs.Lines.{deed_of, naming, having, showing, lowering, retaking, variable_at, shown_by_numbers};
     ghost use Rattle.td_refutation.specs.Doing.{state_of, first_state, IsDone};
@@ -192,6 +193,13 @@ impl Refutation {
         ensures { result ≡ latest_of (state_of self.now).times circuit.now.outputs }
     {
         self.spans.bound(circuit.outputs())
+    }
+
+    /// Whether the last clause is empty: then no pair of the cube is asked about.
+    pub fn has_no_pair(&self) -> bool
+        ensures { result ≡ ends_empty (state_of self.now).clauses }
+    {
+        self.spans.has_no_pair()
     }
 }
 

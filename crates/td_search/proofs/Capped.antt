@@ -15,10 +15,15 @@ use Rattle.td_spans.specs.Changing.{sum_of, fixed_flip, fixed_at, is_so, is_stil
 use Rattle.td_spans.specs.Clauses.{level_is}
 use Rattle.td_spans.specs.Pairs.{flips_of, flips_or, first_flips, reaches, held_differs, is_empty, narrowed, is_pairs_clause}
 use Rattle.td_spans.specs.Signals.{signal_by, times_from, input_at, inputs_to, gates_from, first_times}
-use Rattle.td_refutation.specs.Asking.{Asking}
+use Rattle.td_spans.specs.declared.times.Times.{Times}
+use Rattle.td_spans.specs.Endings.{ends_empty}
+use Rattle.td_refutation.specs.Doing.{state_to}
+use Rattle.td_refutation.specs.Emptied.{IsEmptied}
+use Rattle.td_refutation.specs.Asking.{Asking, asked_in}
 use Rattle.td_refutation.specs.Lines.{Step}
-use Rattle.td_refutation.specs.Whole.{IsRefuted}
-use Rattle.td_refutation.proofs.Questions.{refuted_goes}
+use Rattle.td_refutation.specs.Whole.{IsOfSetting, IsRefuted}
+use Rattle.td_refutation.proofs.Questions.{GoesOver, good_goes, refuted_goes}
+use Rattle.td_certificate.specs.Accepts.{Shows}
 
 -- no more inputs differ than there are
 abbrev pub capped : Admitted → Admitted
@@ -139,12 +144,32 @@ module _ (circuit : Numbered) (admit : Admitted) (cube : List Trit) (helds : len
   times_same : first_times circuit (capped admit) cube ≡ first_times circuit admit cube
   times_same = ap (λ (signals : List Signal). map times_from (gates_from signals circuit.gates)) (inputs_same count (omega arith))
 
+goes_fewer : (given : Setting) (asking : Asking) (cube : List Trit) → length asking.admit.held ≡ length given.netlist.inputs → (circuit : Numbered) → IsOfSetting given circuit
+    → GoesOver circuit (asked_in circuit asking) (asked_in circuit (capped_asking asking)) cube cube
+goes_fewer given asking cube helds circuit of = record {
+  times = sym (times_same circuit asking.admit cube (helds ∙ ap (λ (s : Setting). length s.netlist.inputs) (sym of.is)));
+  pairs = λ variables clause is. pairs_less (length circuit.netlist.inputs) asking.admit cube variables clause is;
+  keep = λ variables clause is. is;
+}
+
 pub refuted_fewer : (given : Setting) (asking : Asking) (cube : List Trit) (steps : List Step) (bound : ℕ) → length asking.admit.held ≡ length given.netlist.inputs
     → IsRefuted given asking cube steps bound → IsRefuted given (capped_asking asking) cube steps bound
-refuted_fewer given asking cube steps bound helds =
-    refuted_goes given asking (capped_asking asking) cube cube steps bound (λ circuit of.
+refuted_fewer given asking cube steps bound helds = refuted_goes given asking (capped_asking asking) cube cube steps bound (goes_fewer given asking cube helds)
+
+emptied_fewer : (given : Setting) (asking : Asking) (cube : List Trit) (steps : List Step) → length asking.admit.held ≡ length given.netlist.inputs
+    → IsEmptied given asking cube steps → IsEmptied given (capped_asking asking) cube steps
+emptied_fewer given asking cube steps helds h =
+    let over = goes_fewer given asking cube helds h.circuit h.of_setting in
     record {
-      times = sym (times_same circuit asking.admit cube (helds ∙ ap (λ (s : Setting). length s.netlist.inputs) (sym of.is)));
-      pairs = λ variables clause is. pairs_less (length circuit.netlist.inputs) asking.admit cube variables clause is;
-      keep = λ variables clause is. is;
-    })
+      circuit = h.circuit;
+      of_setting = h.of_setting;
+      good = good_goes h.circuit (asked_in h.circuit asking) (asked_in h.circuit (capped_asking asking)) cube cube over steps h.good;
+      empty = subst (λ (times : List Times). ends_empty (state_to h.circuit (record { variables = []; begun = false; times = times; clauses = [] }) steps).clauses ≡ true)
+          over.times h.empty;
+    }
+
+-- what steps show of a cube, they show where no more inputs may differ than there are
+pub shows_fewer : (given : Setting) (asking : Asking) (cube : List Trit) (steps : List Step) (bound : Option ℕ) → length asking.admit.held ≡ length given.netlist.inputs
+    → Shows given asking cube steps bound → Shows given (capped_asking asking) cube steps bound
+shows_fewer given asking cube steps None helds shows = emptied_fewer given asking cube steps helds shows
+shows_fewer given asking cube steps (Some bound) helds shows = refuted_fewer given asking cube steps bound helds shows

@@ -1,9 +1,10 @@
 -- Tellings: what literals say of a net, and how many inputs of a gate are at each level, in pieces.
-use Rattle.std.proofs.Common.{◌≡◌, ℕ, ◌+◌, ◌-◌, ◌≤◌, Bool, true, false, List, [], ◌∷◌, ◌++◌, length, map, take, drop, refl, arith, ap, sym, ◌∙◌, inl, inr, Option, Some, None}
-use Rattle.std.specs.Prelude.{nat_le, ◌&&◌, ◌==◌, cond, count_by}
-use Rattle.std.proofs.lemmas.Bool.{cases_lt, leb-true, le-leb, lt-leb, lt-ltb, ltb-true}
+use Rattle.std.proofs.Common.{◌≡◌, ℕ, suc, ◌+◌, ◌-◌, ◌≤◌, Bool, true, false, List, [], ◌∷◌, ◌++◌, length, map, take, drop, refl, arith, ap, sym, ◌∙◌, inl, inr, Option, Some, None}
+use Rattle.std.specs.Prelude.{nat_le, ◌&&◌, ◌==◌, cond, count_by, sum_by, option_to_list, IsPermutation}
+use Rattle.std.proofs.lemmas.Bool.{cases_lt, leb-true, le-leb, lt-leb, lt-ltb, ltb-true, eqb-true, and_parts}
 use Rattle.std.proofs.lemmas.List.{length-append, length-map, map-append, take-append-drop}
-use Rattle.std.proofs.lemmas.List.Sums.{sum_by-append, count_by-le-length}
+use Rattle.std.proofs.lemmas.List.Sums.{sum_by-append, sum_by-cons, count_by-le-length}
+use Rattle.std.proofs.lemmas.List.Sorted.{sum_by-IsPermutation, length_permutation}
 use Rattle.td_gates.specs.declared.counts.Counts.{Counts}
 use Rattle.td_gates.specs.declared.primitives.Level.{Level}
 use Rattle.td_gates.specs.declared.primitives.Level.TheVariants.{Zero, One, X}
@@ -21,7 +22,7 @@ use Rattle.td_spans.specs.declared.variable.Variable.{Variable}
 use Rattle.td_spans.specs.Times.{is_by}
 use Rattle.td_spans.specs.Sayings.{says}
 use Rattle.td_spans.specs.Clauses.{constant_trit, trit_from, trit_by, is_known}
-use Rattle.td_spans.specs.Pieces.{no_counts, one_at, counts_or, is_nothing, few_of, sum_counts, joined, told_or, own, told_of, piece_at, is_known_in}
+use Rattle.td_spans.specs.Pieces.{no_counts, one_at, counts_or, is_nothing, few_of, sum_counts, joined, told_or, said_of, own_if, own_of, trit_said, are_all, many_counts, repeated_piece, piece_at, is_known_in}
 use Rattle.td_spans.specs.declared.walk.Walk.{Walk}
 use Rattle.td_spans.specs.Walking.{is_before, IsStretch}
 use Rattle.td_spans.specs.Stretching.{next_after}
@@ -78,26 +79,91 @@ told_parts sayings middle place =
     ∙ ap (λ ss. told_or ss no_counts place) (take-append-drop middle sayings)
 
 -- what is said of a net gives its level
-pub told_level : (variables : List Variable) (times : List Times) (body : List Literal) (net place : ℕ)
-    → told_or (told_of variables times body net) (one_at (constant_trit net)) place ≡ one_at (trit_by variables times body net place)
-told_level variables times [] net place = refl
-told_level variables times (literal ∷ body) net place =
-    told_append (own (says variables times (negation literal)) net) (told_of variables times body net) (one_at (constant_trit net)) place
-    ∙ ap (λ (c : Counts). told_or (own (says variables times (negation literal)) net) c place) (told_level variables times body net place)
-    ∙ by (says variables times (negation literal))
+told_level : (said : List Saying) (net place : ℕ) → told_or (own_of said net) (one_at (constant_trit net)) place ≡ one_at (trit_said said net place)
+told_level [] net place = refl
+told_level (saying ∷ said) net place =
+    told_append (own_if saying net) (own_of said net) (one_at (constant_trit net)) place
+    ∙ ap (λ (c : Counts). told_or (own_if saying net) c place) (told_level said net place)
+    ∙ by (saying.net == net)
   where
-    by : (o : Option Saying) → told_or (own o net) (one_at (trit_by variables times body net place)) place ≡ one_at (trit_from o net place (trit_by variables times body net place))
-    by None = refl
-    by (Some saying) = own_by (saying.net == net) (nat_le saying.first place && is_by place saying.last)
-      where
-        own_by : (mine here : Bool) → told_or (cond mine (saying ∷ []) []) (one_at (trit_by variables times body net place)) place
-            ≡ one_at (cond (mine && (nat_le saying.first place && is_by place saying.last)) (level_from saying.level) (trit_by variables times body net place))
-        own_by true here = at (nat_le saying.first place && is_by place saying.last)
-          where
-            at : (b : Bool) → cond b (one_at (level_from saying.level)) (one_at (trit_by variables times body net place)) ≡ one_at (cond b (level_from saying.level) (trit_by variables times body net place))
-            at true = refl
-            at false = refl
-        own_by false here = refl
+    at : (b : Bool) → cond b (one_at (level_from saying.level)) (one_at (trit_said said net place)) ≡ one_at (cond b (level_from saying.level) (trit_said said net place))
+    at true = refl
+    at false = refl
+
+    by : (mine : Bool) → told_or (cond mine (saying ∷ []) []) (one_at (trit_said said net place)) place
+        ≡ one_at (cond (mine && (nat_le saying.first place && is_by place saying.last)) (level_from saying.level) (trit_said said net place))
+    by true = at (nat_le saying.first place && is_by place saying.last)
+    by false = refl
+
+-- what literals say gives the levels that they give
+pub said_level : (variables : List Variable) (times : List Times) (body : List Literal) (net place : ℕ)
+    → trit_said (said_of variables times body) net place ≡ trit_by variables times body net place
+said_level variables times [] net place = refl
+said_level variables times (literal ∷ body) net place = by (says variables times (negation literal)) (said_level variables times body net place)
+  where
+    by : (o : Option Saying) → trit_said (said_of variables times body) net place ≡ trit_by variables times body net place
+        → trit_said (option_to_list o ++ said_of variables times body) net place ≡ trit_from o net place (trit_by variables times body net place)
+    by None same = same
+    by (Some saying) same = ap (trit_from (Some saying) net place) same
+
+count_map : (test : Level → Bool) (f : ℕ → Level) (nets : List ℕ) → count_by test (map f nets) ≡ sum_by (λ net. cond (test (f net)) 1 0) nets
+count_map test f [] = refl
+count_map test f (net ∷ nets) =
+    sum_by-cons (λ level. cond (test level) 1 0) (f net) (map f nets)
+    ∙ ap (λ (n : ℕ). cond (test (f net)) 1 0 + n) (count_map test f nets)
+    ∙ sym (sum_by-cons (λ other. cond (test (f other)) 1 0) net nets)
+
+-- the order of a gate's inputs is all one
+pub counts_sorted : (f : ℕ → Level) (nets sorted : List ℕ) → IsPermutation nets sorted → counts_of (map f sorted) ≡ counts_of (map f nets)
+counts_sorted f nets sorted same = rw (count (level_eq Zero), count (level_eq One), count (level_eq X)) refl
+  where
+    count : (test : Level → Bool) → count_by test (map f sorted) ≡ count_by test (map f nets)
+    count test = count_map test f sorted ∙ sum_by-IsPermutation (λ net. cond (test (f net)) 1 0) nets sorted same ∙ sym (count_map test f nets)
+
+count_all : (test : Level → Bool) (f : ℕ → Level) (nets : List ℕ) (net : ℕ) → are_all nets net ≡ true → count_by test (map f nets) ≡ cond (test (f net)) (length nets) 0
+count_all test f [] net all = none (test (f net))
+  where
+    none : (b : Bool) → ◌≡◌ {A = ℕ} 0 (cond b 0 0)
+    none true = refl
+    none false = refl
+count_all test f (other ∷ nets) net all =
+    let both = and_parts (other == net) (are_all nets net) all in
+    let here : other ≡ net = eqb-true other net both.0 in
+    sum_by-cons (λ level. cond (test level) 1 0) (f other) (map f nets)
+    ∙ ap (λ (n : ℕ). cond (test (f other)) 1 0 + n) (count_all test f nets net both.1)
+    ∙ ap (λ (o : ℕ). cond (test (f o)) 1 0 + cond (test (f net)) (length nets) 0) here
+    ∙ one (test (f net)) (length nets)
+  where
+    one : (b : Bool) (n : ℕ) → cond b 1 0 + cond b n 0 ≡ cond b (suc n) 0
+    one true n = omega arith
+    one false n = omega arith
+
+pub counts_one : (level : Level) → one_at level ≡ counts_of (level ∷ [])
+counts_one Zero = refl
+counts_one One = refl
+counts_one X = refl
+
+-- a gate's inputs that are one net
+pub counts_all : (f : ℕ → Level) (nets : List ℕ) (net : ℕ) → are_all nets net ≡ true → many_counts (length nets) (one_at (f net)) ≡ counts_of (map f nets)
+counts_all f nets net all =
+    by (f net)
+    ∙ sym (rw (count_all (level_eq Zero) f nets net all, count_all (level_eq One) f nets net all, count_all (level_eq X) f nets net all) refl)
+  where
+    by : (level : Level) → many_counts (length nets) (one_at level)
+        ≡ record { zeros = cond (level_eq Zero level) (length nets) 0; ones = cond (level_eq One level) (length nets) 0; unknowns = cond (level_eq X level) (length nets) 0 }
+    by Zero = refl
+    by One = refl
+    by X = refl
+
+pub repeated_counts : (count : ℕ) (one : List Piece) (place : ℕ)
+    → counts_or (map (repeated_piece count) one) no_counts place ≡ many_counts count (counts_or one no_counts place)
+repeated_counts count [] place = refl
+repeated_counts count (piece ∷ one) place = by (is_by place piece.last) (repeated_counts count one place)
+  where
+    by : (b : Bool) → counts_or (map (repeated_piece count) one) no_counts place ≡ many_counts count (counts_or one no_counts place)
+        → cond b (many_counts count piece.counts) (counts_or (map (repeated_piece count) one) no_counts place) ≡ many_counts count (cond b piece.counts (counts_or one no_counts place))
+    by true same = refl
+    by false same = same
 
 count_parts : (test : Level → Bool) (xs ys : List Level) → length xs + length ys ≤ 1023
     → few_of (count_by test xs) (count_by test ys) ≡ count_by test (xs ++ ys)
@@ -150,21 +216,28 @@ counts_parts f nets middle few =
     long : length (map f (take middle nets)) + length (map f (drop middle nets)) ≤ 1023
     long = rw (length-map, length-map, sym (length-append (take middle nets) (drop middle nets)), take-append-drop middle nets) few
 
-pub counts_one : (level : Level) → one_at level ≡ counts_of (level ∷ [])
-counts_one Zero = refl
-counts_one One = refl
-counts_one X = refl
+pub sorted_few : (nets sorted slice : List ℕ) → IsPermutation nets sorted → slice ≡ sorted → length nets ≤ 1023 → length slice ≤ 1023
+sorted_few nets sorted slice same is few = omega (arith, length_permutation nets sorted same, ap (length {A = ℕ}) is, few)
 
 -- what pieces count gives what is known of a gate's target
-pub known_pieces : (variables : List Variable) (times : List Times) (gate : NumberedGate) (body : List Literal) (level : Bool) (pieces : List Piece)
-    → TakesInputs gate.kind (length gate.inputs)
-    → ((place : ℕ) → counts_or pieces no_counts place ≡ counts_of (map (λ net. trit_by variables times body net place) gate.inputs))
+pub known_pieces : (variables : List Variable) (times : List Times) (gate : NumberedGate) (body : List Literal) (level : Bool) (said : List Saying) (sorted : List ℕ) (pieces : List Piece)
+    → TakesInputs gate.kind (length gate.inputs) → said ≡ said_of variables times body → IsPermutation gate.inputs sorted
+    → ((place : ℕ) → counts_or pieces no_counts place ≡ counts_of (map (λ net. trit_said said net place) sorted))
     → is_known_in gate.kind level pieces ≡ is_known variables times gate body level
-known_pieces variables times gate body level pieces takes counts = λ z place. same place z
+known_pieces variables times gate body level said sorted pieces takes said_is in_order counts = λ z place. same place z
   where
+    trits : (place : ℕ) (nets : List ℕ) → map (λ net. trit_said said net place) nets ≡ map (λ net. trit_by variables times body net place) nets
+    trits place [] = refl
+    trits place (net ∷ nets) =
+        ap (λ (l : Level). l ∷ map (λ other. trit_said said other place) nets)
+        (ap (λ ss. trit_said ss net place) said_is ∙ said_level variables times body net place)
+        ∙ ap (λ (ls : List Level). trit_by variables times body net place ∷ ls) (trits place nets)
+
     same : (place : ℕ) → is_known_in gate.kind level pieces place ≡ is_known variables times gate body level place
     same place =
-        ap (λ (c : Counts). level_eq (level_from level) (table_by gate.kind c)) (counts place)
+        ap (λ (c : Counts). level_eq (level_from level) (table_by gate.kind c))
+        (counts place ∙ counts_sorted (λ net. trit_said said net place) gate.inputs sorted in_order
+        ∙ ap counts_of (trits place gate.inputs))
         ∙ ap (level_eq (level_from level)) (table-counts gate.kind (map (λ net. trit_by variables times body net place) gate.inputs) (rw length-map takes))
 
 -- the place is before the next one after a piece that isn't over
@@ -211,25 +284,24 @@ told_merged sayings middle low high pieces low_is high_is is place =
     (high_is place ∙ ap (λ ss. told_or ss no_counts place) (rest_all sayings middle))
     ∙ told_parts sayings middle place
 
-pub net_merged : (variables : List Variable) (times : List Times) (body : List Literal) (net : ℕ) (own rest pieces : List Piece)
-    → ((place : ℕ) → counts_or own no_counts place ≡ told_or (told_of variables times body net) no_counts place)
+pub net_merged : (said : List Saying) (net : ℕ) (own rest pieces : List Piece)
+    → ((place : ℕ) → counts_or own no_counts place ≡ told_or (own_of said net) no_counts place)
     → ((place : ℕ) → counts_or rest no_counts place ≡ one_at (constant_trit net))
     → ((place : ℕ) → counts_or pieces no_counts place ≡ joined false (counts_or own no_counts place) (counts_or rest no_counts place))
-    → (place : ℕ) → counts_or pieces no_counts place ≡ one_at (trit_by variables times body net place)
-net_merged variables times body net own rest pieces own_is rest_is is place =
+    → (place : ℕ) → counts_or pieces no_counts place ≡ one_at (trit_said said net place)
+net_merged said net own rest pieces own_is rest_is is place =
     is place ∙ ap (λ (c : Counts). joined false c (counts_or rest no_counts place)) (own_is place)
-    ∙ ap (λ (c : Counts). joined false (told_or (told_of variables times body net) no_counts place) c) (rest_is place)
-    ∙ told_joined (told_of variables times body net) (one_at (constant_trit net)) place
-    ∙ told_level variables times body net place
+    ∙ ap (λ (c : Counts). joined false (told_or (own_of said net) no_counts place) c) (rest_is place)
+    ∙ told_joined (own_of said net) (one_at (constant_trit net)) place
+    ∙ told_level said net place
 
-pub counts_merged : (variables : List Variable) (times : List Times) (body : List Literal) (nets : List ℕ) (middle : ℕ) (low high pieces : List Piece)
-    → length nets ≤ 1023
-    → ((place : ℕ) → counts_or low no_counts place ≡ counts_of (map (λ net. trit_by variables times body net place) (take middle nets)))
-    → ((place : ℕ) → counts_or high no_counts place ≡ counts_of (map (λ net. trit_by variables times body net place) (take (length nets - middle) (drop middle nets))))
+pub counts_merged : (said : List Saying) (nets : List ℕ) (middle : ℕ) (low high pieces : List Piece) → length nets ≤ 1023
+    → ((place : ℕ) → counts_or low no_counts place ≡ counts_of (map (λ net. trit_said said net place) (take middle nets)))
+    → ((place : ℕ) → counts_or high no_counts place ≡ counts_of (map (λ net. trit_said said net place) (take (length nets - middle) (drop middle nets))))
     → ((place : ℕ) → counts_or pieces no_counts place ≡ joined true (counts_or low no_counts place) (counts_or high no_counts place))
-    → (place : ℕ) → counts_or pieces no_counts place ≡ counts_of (map (λ net. trit_by variables times body net place) nets)
-counts_merged variables times body nets middle low high pieces few low_is high_is is place =
+    → (place : ℕ) → counts_or pieces no_counts place ≡ counts_of (map (λ net. trit_said said net place) nets)
+counts_merged said nets middle low high pieces few low_is high_is is place =
     is place ∙ ap (λ (c : Counts). joined true c (counts_or high no_counts place)) (low_is place)
-    ∙ ap (λ (c : Counts). joined true (counts_of (map (λ net. trit_by variables times body net place) (take middle nets))) c)
-    (high_is place ∙ ap (λ (ns : List ℕ). counts_of (map (λ net. trit_by variables times body net place) ns)) (rest_all nets middle))
-    ∙ counts_parts (λ net. trit_by variables times body net place) nets middle few
+    ∙ ap (λ (c : Counts). joined true (counts_of (map (λ net. trit_said said net place) (take middle nets))) c)
+    (high_is place ∙ ap (λ (ns : List ℕ). counts_of (map (λ net. trit_said said net place) ns)) (rest_all nets middle))
+    ∙ counts_parts (λ net. trit_said said net place) nets middle few

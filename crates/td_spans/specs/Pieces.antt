@@ -1,5 +1,6 @@
 -- Pieces: counts of levels that stay the same from place to place, up to the end of each piece.
-use Rattle.std.specs.Prelude.{ℕ, ◌+◌, ◌==◌, nat_le, min, Bool, ◌&&◌, List, [], ◌∷◌, ◌++◌, slice_get, Option, Some, None, unwrap_or, if◌then◌else◌}
+use Rattle.std.specs.Prelude.{ℕ, ◌+◌, ◌==◌, nat_le, min, Bool, ◌&&◌, List, [], ◌∷◌, ◌++◌, slice_get, Option, Some, None, unwrap_or, option_to_list, if◌then◌else◌}
+use Rattle.std.specs.List.{list_all}
 use Rattle.td_gates.specs.declared.primitives.Level.{Level}
 use Rattle.td_gates.specs.declared.primitives.Level.TheVariants.{Zero, One, X}
 use Rattle.td_gates.specs.declared.counts.Counts.{Counts}
@@ -14,6 +15,7 @@ use Rattle.td_spans.specs.declared.variable.Saying.{Saying}
 use Rattle.td_spans.specs.declared.variable.Variable.{Variable}
 use Rattle.td_spans.specs.Times.{is_by}
 use Rattle.td_spans.specs.Sayings.{says}
+use Rattle.td_spans.specs.Clauses.{constant_trit, trit_from}
 
 -- no input
 abbrev pub no_counts : Counts
@@ -76,15 +78,42 @@ told_or [] rest place = rest
 told_or (saying ∷ sayings) rest place =
     if nat_le saying.first place && is_by place saying.last then one_at (level_from saying.level) else told_or sayings rest place
 
--- a saying, where there is one and it is of this net
-abbrev pub own : Option Saying → ℕ → List Saying
-own None net = []
-own (Some saying) net = if saying.net == net then saying ∷ [] else []
+-- what literals say, where they are false
+abbrev pub said_of : List Variable → List Times → List Literal → List Saying
+said_of variables times [] = []
+said_of variables times (literal ∷ others) = option_to_list (says variables times (negation literal)) ++ said_of variables times others
 
--- what literals say of a net, where they are false
-abbrev pub told_of : List Variable → List Times → List Literal → ℕ → List Saying
-told_of variables times [] net = []
-told_of variables times (literal ∷ others) net = own (says variables times (negation literal)) net ++ told_of variables times others net
+-- a saying, where it is of this net
+abbrev pub own_if : Saying → ℕ → List Saying
+own_if saying net = if saying.net == net then saying ∷ [] else []
+
+-- what is said of a net
+abbrev pub own_of : List Saying → ℕ → List Saying
+own_of [] net = []
+own_of (saying ∷ sayings) net = own_if saying net ++ own_of sayings net
+
+-- the level of a net by what is said
+abbrev pub trit_said : List Saying → ℕ → ℕ → Level
+trit_said [] net place = constant_trit net
+trit_said (saying ∷ sayings) net place = trit_from (Some saying) net place (trit_said sayings net place)
+
+-- whether nets all are the same one
+abbrev pub are_all : List ℕ → ℕ → Bool
+are_all nets net = list_all (λ other. other == net) nets
+
+-- a count of one net for as many
+abbrev pub many : ℕ → ℕ → ℕ
+many count one = if one == 0 then 0 else count
+
+abbrev pub many_counts : ℕ → Counts → Counts
+many_counts count one = record {
+  zeros = many count one.zeros;
+  ones = many count one.ones;
+  unknowns = many count one.unknowns;
+}
+
+abbrev pub repeated_piece : ℕ → Piece → Piece
+repeated_piece count one = record { last = one.last; counts = many_counts count one.counts }
 
 -- whether a gate's target surely is at a level at a place, where pieces count its inputs
 abbrev pub is_known_in : Kind → Bool → List Piece → ℕ → Bool

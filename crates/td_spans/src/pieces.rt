@@ -3,7 +3,7 @@
 ghost use Rattle.std.specs.Prelude.{◌≡◌, ◌+◌, ◌≤◌, ◌<◌, ◌++◌, ◌∷◌, ℕ, true, false, [], length, drop, slice_get, IfOk};
 ghost use Rattle.td_gates.specs.declared.primitives.Level.{Level as LevelModel};
 ghost use Rattle.td_spans.specs.Times.{is_by};
-ghost use Rattle.td_spans.specs.Pieces.{no_counts, one_at, counts_or, is_nothing, sum_counts, joined, nearest, next_index, two_at, piece_at, told_or};
+ghost use Rattle.td_spans.specs.Pieces.{no_counts, one_at, counts_or, is_nothing, sum_counts, joined, nearest, next_index, two_at, piece_at, many, many_counts, told_or};
 
 use crate::gate_clauses::level_from;
 use crate::net_clauses::is_within;
@@ -137,6 +137,31 @@ pub fn merged(
     }
     pieces.extend_from_slice(&one[i..])?;
     pieces.extend_from_slice(&other[j..])?;
+    Ok(pieces)
+}
+
+// A count of one net for as many.
+fn many(count: u64, one: u64) -> u64
+    ensures { result ≡ many count one }
+{
+    if one == 0 { 0 } else { count }
+}
+
+/// Pieces that count one net, for as many. The error is out of memory.
+pub fn repeated(alloc: Global, count: u64, one: &[Piece]) -> Result<Vec<Piece>, AllocError>
+    ensures { IfOk result (λ pieces. (place : ℕ) → counts_or pieces.items no_counts place ≡ many_counts count (counts_or one.now no_counts place)) }
+{
+    let mut pieces = Vec::new(alloc);
+    for piece in one {
+        pieces.push(Piece {
+            last: piece.last,
+            counts: Counts {
+                zeros: many(count, piece.counts.zeros),
+                ones: many(count, piece.counts.ones),
+                unknowns: many(count, piece.counts.unknowns),
+            },
+        })?;
+    }
     Ok(pieces)
 }
 

@@ -34,8 +34,8 @@ module _ (asked : Problem) (budget : ℕ) (some : 0 < budget) (sizes : IsSpellab
     (timed : IsTimed asked.setting asked.admit (record { pair = pair; time = time }))
     (bound : ℕ) (is : IsBoundBy Edges asked.setting asked.admit.pins (Some bound)) (greatest : IsUpperBoundIn asked.setting asked.admit.pins bound)
     (within : bound ≤ time) (tree : List Node) (leaf : tree ≡ Bound Edges bound ∷ []) where
-  good : AllByRecursion (IsGood asked.setting (capped_asking (all_admitted asked.admit)) time) (lines_from (asked.admit.pins ∷ []) (Bound Edges bound ∷ []))
-  good = (record { splits = tt; one_pair = tt; of_cube = record { bound = bound; is = is; within = omega arith }; within = within }, tt)
+  good : AllByRecursion (IsGood asked.setting (capped_asking (all_admitted asked.admit)) (Some time)) (lines_from (asked.admit.pins ∷ []) (Bound Edges bound ∷ []))
+  good = (record { splits = tt; enough = tt; one_pair = tt; of_cube = record { bound = bound; is = is; within = omega arith }; within = within }, tt)
 
   is_whole : IsTree tree
   is_whole = subst IsTree (sym leaf) refl
@@ -45,16 +45,16 @@ module _ (asked : Problem) (budget : ℕ) (some : 0 < budget) (sizes : IsSpellab
     reached = (timed.admitted, timed.delay);
     greatest = λ other delay admitted has. omega (arith, greatest other delay admitted.pinned has, within);
     accepted = λ terms bare. record {
-      size = record { inputs = sym sizes.held; gates = refl; fit = ap (are_fit (2 + length asked.admit.held + length asked.setting.netlist.gates)) bare };
+      size = record { inputs = sym sizes.held; gates = refl; pins = sizes.pins; fit = ap (are_fit (2 + length asked.admit.held + length asked.setting.netlist.gates)) bare };
       admitted = record {
         admitted = cap asked.admit pair long.0 timed.admitted;
         kept = subst (λ (keep : List NamedCondition). IsKept asked.setting.netlist keep pair) (sym bare) (nothing_kept asked.setting.netlist pair);
       };
       reached = timed.delay;
       tree = is_whole;
-      good = subst (λ (keep : List NamedCondition). AllByRecursion (IsGood asked.setting (record { admit = capped asked.admit; keep = keep }) time)
+      good = subst (λ (keep : List NamedCondition). AllByRecursion (IsGood asked.setting (record { admit = capped asked.admit; keep = keep }) (Some time))
           (lines_from (asked.admit.pins ∷ []) tree)) (sym bare)
-          (subst (λ (nodes : List Node). AllByRecursion (IsGood asked.setting (capped_asking (all_admitted asked.admit)) time) (lines_from (asked.admit.pins ∷ []) nodes))
+          (subst (λ (nodes : List Node). AllByRecursion (IsGood asked.setting (capped_asking (all_admitted asked.admit)) (Some time)) (lines_from (asked.admit.pins ∷ []) nodes))
           (sym leaf) good);
     };
     within = omega (arith, ap length leaf, some);
@@ -70,10 +70,12 @@ module _ (asked : Problem) (budget : ℕ) (some : 0 < budget) (sizes : IsSpellab
     count = sizes.moments.count ∙ sym sizes.held;
     moments = recursion_from_All _ asked.setting.moments sizes.moments.within;
     terms = are_terms terms tree can;
-    time = omega (arith, small);
-    high = one_moment (version_in (certificate_by terms asked time pair tree)) time time refl (omega (arith, small));
-    first = long.0;
-    second = long.1;
+    claim = record {
+      time = omega (arith, small);
+      high = one_moment (version_in (certificate_by terms asked time pair tree)) time time refl (omega (arith, small));
+      first = long.0;
+      second = long.1;
+    };
     nodes = subst (λ (nodes : List Node). AllByRecursion (IsNode (version_in (certificate_by terms asked time pair tree))) nodes) (sym leaf) (
       (
         omega (arith, within, small),
@@ -92,6 +94,6 @@ module _ (asked : Problem) (budget : ℕ) (some : 0 < budget) (sizes : IsSpellab
     is_exact,
     λ terms can. (
       spelled terms can,
-      searched_texts_fit (certificate_by terms asked time pair tree) (spelled terms can) (have_few terms tree can) small small short (omega (arith, ap length leaf)),
+      searched_texts_fit (certificate_by terms asked time pair tree) (spelled terms can) (have_few terms tree can) (small, small) short (omega (arith, ap length leaf)),
     ),
   )

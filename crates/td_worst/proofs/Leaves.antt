@@ -14,7 +14,7 @@ use Rattle.td_refutation.specs.Asking.{all_admitted, IsKept}
 use Rattle.td_refutation.proofs.Asking.{nothing_kept}
 use Rattle.td_certificate.specs.Accepts.{IsGood, are_fit}
 use Rattle.td_certificate.specs.Spelling.{HasSpelling, IsNode, version_in}
-use Rattle.std.specs.Prelude.{Option}
+use Rattle.std.specs.Prelude.{Option, Some}
 use Rattle.td_certificate.specs.Questions.{Terms}
 use Rattle.td_certificate.specs.Lengths.{CanTell}
 use Rattle.td_certificate.specs.Trees.{IsTree, has_refuted}
@@ -55,24 +55,24 @@ module _ (asked : Problem) (budget : ℕ) (some : 0 < budget) (sizes : IsSpellab
   steps_shown : IsRefuted asked.setting (capped_asking (all_admitted asked.admit)) asked.admit.pins (leaf_of refuted).steps refuted.bound
   steps_shown = refuted_fewer asked.setting (all_admitted asked.admit) asked.admit.pins (leaf_of refuted).steps refuted.bound sizes.held shown.steps
 
-  good : AllByRecursion (IsGood asked.setting (capped_asking (all_admitted asked.admit)) time) (lines_from (asked.admit.pins ∷ []) (Refuted (leaf_of refuted) ∷ []))
-  good = (record { splits = tt; one_pair = tt; of_cube = steps_shown; within = within }, tt)
+  good : AllByRecursion (IsGood asked.setting (capped_asking (all_admitted asked.admit)) (Some time)) (lines_from (asked.admit.pins ∷ []) (Refuted (leaf_of refuted) ∷ []))
+  good = (record { splits = tt; enough = tt; one_pair = tt; of_cube = steps_shown; within = within }, tt)
 
   is_exact : IsExact asked budget time pair tree
   is_exact = record {
     reached = (timed.admitted, timed.delay);
     greatest = λ other delay admitted is. omega (arith, shown.bound other delay admitted is, within);
     accepted = λ terms bare. record {
-      size = record { inputs = sym sizes.held; gates = refl; fit = ap (are_fit (2 + length asked.admit.held + length asked.setting.netlist.gates)) bare };
+      size = record { inputs = sym sizes.held; gates = refl; pins = sizes.pins; fit = ap (are_fit (2 + length asked.admit.held + length asked.setting.netlist.gates)) bare };
       admitted = record {
         admitted = cap asked.admit pair long.0 timed.admitted;
         kept = subst (λ (keep : List NamedCondition). IsKept asked.setting.netlist keep pair) (sym bare) (nothing_kept asked.setting.netlist pair);
       };
       reached = timed.delay;
       tree = leaf_tree refuted tree leaf.is;
-      good = subst (λ (keep : List NamedCondition). AllByRecursion (IsGood asked.setting (record { admit = capped asked.admit; keep = keep }) time)
+      good = subst (λ (keep : List NamedCondition). AllByRecursion (IsGood asked.setting (record { admit = capped asked.admit; keep = keep }) (Some time))
           (lines_from (asked.admit.pins ∷ []) tree)) (sym bare)
-          (subst (λ (nodes : List Node). AllByRecursion (IsGood asked.setting (capped_asking (all_admitted asked.admit)) time) (lines_from (asked.admit.pins ∷ []) nodes))
+          (subst (λ (nodes : List Node). AllByRecursion (IsGood asked.setting (capped_asking (all_admitted asked.admit)) (Some time)) (lines_from (asked.admit.pins ∷ []) nodes))
           (sym leaf.is) good);
     };
     within = omega (arith, ap length leaf.is, some);
@@ -92,10 +92,12 @@ module _ (asked : Problem) (budget : ℕ) (some : 0 < budget) (sizes : IsSpellab
     count = sizes.moments.count ∙ sym sizes.held;
     moments = recursion_from_All _ asked.setting.moments sizes.moments.within;
     terms = are_terms terms tree can;
-    time = omega (arith, small);
-    high = one_moment (version_in (certificate_by terms asked time pair tree)) time time refl (omega (arith, small));
-    first = long.0;
-    second = long.1;
+    claim = record {
+      time = omega (arith, small);
+      high = one_moment (version_in (certificate_by terms asked time pair tree)) time time refl (omega (arith, small));
+      first = long.0;
+      second = long.1;
+    };
     nodes = subst (λ (nodes : List Node). AllByRecursion (IsNode (version_in (certificate_by terms asked time pair tree))) nodes) (sym leaf.is)
         ((leaf.spelled, is_fourth terms tree (question_by terms asked).admit (question_by terms asked).moments can leaf_refuted), tt);
     tree = leaf_tree refuted tree leaf.is;
@@ -106,6 +108,6 @@ module _ (asked : Problem) (budget : ℕ) (some : 0 < budget) (sizes : IsSpellab
     is_exact,
     λ terms can. (
       spelled terms can,
-      refuted_texts_fit (certificate_by terms asked time pair tree) (leaf_of refuted) (spelled terms can) (have_few terms tree can) small small leaf.is leaf.few,
+      refuted_texts_fit (certificate_by terms asked time pair tree) (leaf_of refuted) (spelled terms can) (have_few terms tree can) (small, small) leaf.is leaf.few,
     ),
   )

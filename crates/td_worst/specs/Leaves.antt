@@ -1,5 +1,5 @@
 -- Internal: the certificate's tree of a refutation.
-use Rattle.std.specs.Prelude.{◌≡◌, ◌*◌, ◌≤◌, List, [], ◌∷◌, length, map}
+use Rattle.std.specs.Prelude.{◌≡◌, ◌*◌, ◌≤◌, List, [], ◌∷◌, length, map, Some}
 use Rattle.td_circuit.specs.Settings.{AreMoments}
 use Rattle.td_certificate.specs.declared.tree.Node.{Node}
 use Rattle.td_certificate.specs.declared.tree.Node.TheVariants.{Refuted}
@@ -10,7 +10,7 @@ use Rattle.td_refute.specs.declared.refuting.Refuted as found
 
 -- the leaf of what was found
 abbrev pub leaf_of : found.Refuted → steps.Refuted
-leaf_of refuted = record { steps = map step_of refuted.steps.items; bound = refuted.bound }
+leaf_of refuted = record { steps = map step_of refuted.steps.items; bound = Some refuted.bound }
 
 -- the tree has one leaf, with these steps and this bound, and a text that isn't too long
 pub record IsLeafOf (refuted : found.Refuted) (tree : List Node) : Type 0 where

@@ -16,7 +16,7 @@ pub fn tree_of_leaf(alloc: Global, refuted: &Refuted) -> Result<Option<Tree>, Al
     requires { refuted.now.bound ≤ 10 ^ 18 }
     ensures { IfOk result (λ answer. IfSome answer (IsLeafOf refuted.now)) }
 {
-    let Some(leaf) = Leaf::of_steps(alloc, &refuted.steps, refuted.bound)? else {
+    let Some(leaf) = Leaf::of_steps(alloc, &refuted.steps, Some(refuted.bound))? else {
         return Ok(None);
     };
     if leaf.byte_count() > MOST_BYTES {

@@ -1,7 +1,7 @@
 use Rattle.std.proofs.Common.{refl, inl, inr}
 use Rattle.std.proofs.lemmas.Result.{err_from_is_err_and}
 use Rattle.td_answer.specs.Joins.{texts_of, whole_pins}
-use Rattle.td_answer.proofs.Whole.{to_join, parts_spelled, whole_worst}
+use Rattle.td_answer.proofs.Whole.{to_join, parts_spelled, whole_true}
 use Rattle.td_answer.proofs.join.join.Goals as goal
 
 pub returns-in_err-pinned-clause-refusal : goal.returns-in_err-pinned-clause-refusal
@@ -50,7 +50,7 @@ returns-clause-says c =
       has_text = spelled;
       few = c.in_ok-whole.ensures.few;
       accepted = c.in_ok-whole.ensures.accepted;
-      worst = whole_worst c.args.text.now c.args.reading.now c.in_ok-pinned.pinned.circuit.netlist c.in_ok-pinned.ensures.asked.circuit c.args.asked.now.check _ _
+      claims = whole_true c.args.text.now c.args.reading.now c.in_ok-pinned.pinned.circuit.netlist c.in_ok-pinned.ensures.asked.circuit c.args.asked.now.check _ _
           c.in_ok-parts.parts.items _ c.in_ok-whole.whole c.gates-gates.ensures.numbering.well_formed are c.in_ok-whole.ensures.joined spelled c.in_ok-whole.ensures.accepted;
       is = c.in_ok-report.ensures;
       ends = refl;

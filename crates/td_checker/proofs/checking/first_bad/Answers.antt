@@ -1,7 +1,8 @@
-use Rattle.std.proofs.Common.{◌≡◌, ◌+◌, ◌≤◌, Some, length, reverse, ap, arith}
+use Rattle.std.proofs.Common.{◌≡◌, ℕ, ◌+◌, ◌≤◌, Option, Some, length, reverse, ap, subst, arith}
 use Rattle.std.specs.Prelude.{slice_get}
 use Rattle.td_circuit.specs.Numbering.{setting}
 use Rattle.td_certificate.specs.declared.tree.Node.{Node}
+use Rattle.td_certificate.specs.Accepts.{high_of}
 use Rattle.td_certificate.specs.Questions.{asking_of}
 use Rattle.td_checker.specs.Judging.{with_cube, flaw_of, IsJudged, IsFlawed, IsGoodLine}
 use Rattle.td_checker.proofs.Lines.{found_bad, good_more, passed, all_good, node_at, counted_more, counted_within}
@@ -17,8 +18,9 @@ overflow_add-result c =
     let here : Node = c.node-item.result in
     let at : slice_get certificate.tree place ≡ Some here =
     node_at c.nodes-node-items.result.now certificate.tree place here c.nodes-node-items.ensures.nodes c.loop-node-test.true c.node-item.is in
-    let judged : IsJudged given (asking_of certificate.question) certificate.high (with_cube cube here) c.in_ok-flaw.field-0 = c.in_ok-flaw.ensures.judged in
-    let flawed : IsFlawed given (asking_of certificate.question) certificate.high (with_cube cube here) (flaw_of c.in-Bad.flaw c.in-Bad.place) c.in-Bad.place =
+    let judged : IsJudged given (asking_of certificate.question) (high_of certificate.claim) (with_cube cube here) c.in_ok-flaw.field-0 =
+    subst (λ (m : Option ℕ). IsJudged given (asking_of certificate.question) m (with_cube cube here) c.in_ok-flaw.field-0) c.high_of-most.ensures c.in_ok-flaw.ensures.judged in
+    let flawed : IsFlawed given (asking_of certificate.question) (high_of certificate.claim) (with_cube cube here) (flaw_of c.in-Bad.flaw c.in-Bad.place) c.in-Bad.place =
     rw c.in-Bad.is at judged in
     let within = counted_within certificate place c.loop-node.before (c.in-Bad.place + 1) cube path here c.loop-node.invariant.walk at c.loop-node.invariant.before (omega (arith, flawed.inside)) in
     omega (arith, within, c.requires.few)
@@ -33,8 +35,9 @@ returns-in-Bad-clause-judged c =
     let here : Node = c.node-item.result in
     let at : slice_get certificate.tree place ≡ Some here =
     node_at c.nodes-node-items.result.now certificate.tree place here c.nodes-node-items.ensures.nodes c.loop-node-test.true c.node-item.is in
-    let judged : IsJudged given (asking_of certificate.question) certificate.high (with_cube cube here) c.in_ok-flaw.field-0 = c.in_ok-flaw.ensures.judged in
-    let flawed : IsFlawed given (asking_of certificate.question) certificate.high (with_cube cube here) (flaw_of c.in-Bad.flaw c.in-Bad.place) c.in-Bad.place =
+    let judged : IsJudged given (asking_of certificate.question) (high_of certificate.claim) (with_cube cube here) c.in_ok-flaw.field-0 =
+    subst (λ (m : Option ℕ). IsJudged given (asking_of certificate.question) m (with_cube cube here) c.in_ok-flaw.field-0) c.high_of-most.ensures c.in_ok-flaw.ensures.judged in
+    let flawed : IsFlawed given (asking_of certificate.question) (high_of certificate.claim) (with_cube cube here) (flaw_of c.in-Bad.flaw c.in-Bad.place) c.in-Bad.place =
     rw c.in-Bad.is at judged in
     record {
       at = c.in-Bad.place;
@@ -52,8 +55,9 @@ returns-in-Bad-clause-before c =
     let here : Node = c.node-item.result in
     let at : slice_get certificate.tree place ≡ Some here =
     node_at c.nodes-node-items.result.now certificate.tree place here c.nodes-node-items.ensures.nodes c.loop-node-test.true c.node-item.is in
-    let judged : IsJudged given (asking_of certificate.question) certificate.high (with_cube cube here) c.in_ok-flaw.field-0 = c.in_ok-flaw.ensures.judged in
-    let flawed : IsFlawed given (asking_of certificate.question) certificate.high (with_cube cube here) (flaw_of c.in-Bad.flaw c.in-Bad.place) c.in-Bad.place =
+    let judged : IsJudged given (asking_of certificate.question) (high_of certificate.claim) (with_cube cube here) c.in_ok-flaw.field-0 =
+    subst (λ (m : Option ℕ). IsJudged given (asking_of certificate.question) m (with_cube cube here) c.in_ok-flaw.field-0) c.high_of-most.ensures c.in_ok-flaw.ensures.judged in
+    let flawed : IsFlawed given (asking_of certificate.question) (high_of certificate.claim) (with_cube cube here) (flaw_of c.in-Bad.flaw c.in-Bad.place) c.in-Bad.place =
     rw c.in-Bad.is at judged in
     let within = counted_within certificate place c.loop-node.before (c.in-Bad.place + 1) cube path here c.loop-node.invariant.walk at c.loop-node.invariant.before (omega (arith, flawed.inside)) in
     omega (arith, within, c.requires.few)
@@ -68,8 +72,9 @@ overflow_add-before c =
     let here : Node = c.node-item.result in
     let at : slice_get certificate.tree place ≡ Some here =
     node_at c.nodes-node-items.result.now certificate.tree place here c.nodes-node-items.ensures.nodes c.loop-node-test.true c.node-item.is in
-    let judged : IsJudged given (asking_of certificate.question) certificate.high (with_cube cube here) c.in_ok-flaw.field-0 = c.in_ok-flaw.ensures.judged in
-    let good : IsGoodLine given (asking_of certificate.question) certificate.high (with_cube cube here) c.in-Good.lines = rw c.in-Good.is at judged in
+    let judged : IsJudged given (asking_of certificate.question) (high_of certificate.claim) (with_cube cube here) c.in_ok-flaw.field-0 =
+    subst (λ (m : Option ℕ). IsJudged given (asking_of certificate.question) m (with_cube cube here) c.in_ok-flaw.field-0) c.high_of-most.ensures c.in_ok-flaw.ensures.judged in
+    let good : IsGoodLine given (asking_of certificate.question) (high_of certificate.claim) (with_cube cube here) c.in-Good.lines = rw c.in-Good.is at judged in
     let within = counted_within certificate place c.loop-node.before c.in-Good.lines cube path here c.loop-node.invariant.walk at c.loop-node.invariant.before (omega (arith, good.count_is)) in
     omega (arith, within, c.requires.few)
 
@@ -83,8 +88,9 @@ loop-node-preserved c =
     let here : Node = c.node-item.result in
     let at : slice_get certificate.tree place ≡ Some here =
     node_at c.nodes-node-items.result.now certificate.tree place here c.nodes-node-items.ensures.nodes c.loop-node-test.true c.node-item.is in
-    let judged : IsJudged given (asking_of certificate.question) certificate.high (with_cube cube here) c.in_ok-flaw.field-0 = c.in_ok-flaw.ensures.judged in
-    let good : IsGoodLine given (asking_of certificate.question) certificate.high (with_cube cube here) c.in-Good.lines = rw c.in-Good.is at judged in
+    let judged : IsJudged given (asking_of certificate.question) (high_of certificate.claim) (with_cube cube here) c.in_ok-flaw.field-0 =
+    subst (λ (m : Option ℕ). IsJudged given (asking_of certificate.question) m (with_cube cube here) c.in_ok-flaw.field-0) c.high_of-most.ensures c.in_ok-flaw.ensures.judged in
+    let good : IsGoodLine given (asking_of certificate.question) (high_of certificate.claim) (with_cube cube here) c.in-Good.lines = rw c.in-Good.is at judged in
     record {
       walk = passed certificate place cube c.pass.new.self.cube path (reverse c.pass.new.self.path.items) here
           c.loop-node.invariant.walk at c.in_ok-pass-in-Good.ensures.next c.in_ok-pass-in-Good.ensures.inside c.in_ok-pass-in-Good.ensures.length;

@@ -1,9 +1,11 @@
+use Rattle.std.proofs.Common.{Bool, Option, sym, subst}
+use Rattle.std.specs.Prelude.{IfOk, IsTrue, ◌↔◌}
 use Rattle.td_circuit.specs.Numbering.{setting}
-use Rattle.td_circuit.specs.Run.{IsDelayOfBits}
-use Rattle.td_checker.proofs.Points.{is_asked}
+use Rattle.td_certificate.specs.declared.certificate.Claim.{Claim}
+use Rattle.td_certificate.specs.Accepts.{ClaimsDelay}
 use Rattle.td_checker.proofs.checking.is_reached.Goals as goal
 
-pub returns-clause-reached : goal.returns-clause-reached
-returns-clause-reached c =
-    is_asked (IsDelayOfBits (setting c.args.circuit.now) c.args.certificate.now.pair.first c.args.certificate.now.pair.second)
-    c.in_ok-delay_of.field-0 c.args.certificate.now.time c.in_ok-delay_of.ensures.delay c.in_ok-delay_of.ensures.only
+pub returns-in-Some-clause-reached : goal.returns-in-Some-clause-reached
+returns-in-Some-clause-reached c =
+    subst (λ (claim : Option Claim). IfOk c.has_its_time.result (λ (is : Bool). IsTrue is ↔ ClaimsDelay (setting c.args.circuit.now) claim))
+    (sym c.in-Some.is) c.has_its_time.ensures.reached

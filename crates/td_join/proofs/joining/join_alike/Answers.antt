@@ -1,11 +1,11 @@
-use Rattle.std.proofs.Common.{◌≡◌, ◌<◌, ◌≤◌, ◌*◌, false, List, Some, length, refl, sym, subst}
+use Rattle.std.proofs.Common.{◌≡◌, ◌<◌, ◌*◌, false, List, Some, length, refl, sym, subst}
 use Rattle.std.specs.Prelude.{slice_get, All}
 use Rattle.std.proofs.lemmas.Option.{slice_get_read}
 use Rattle.std.proofs.lemmas.Result.{err_from_is_err_and}
 use Rattle.td_domain.specs.Admits.{Admitted}
 use Rattle.td_certificate.specs.declared.certificate.Certificate.{Certificate}
 use Rattle.td_join.specs.Faults.{IsInside}
-use Rattle.td_join.specs.Joining.{pins_of, AreJoined}
+use Rattle.td_join.specs.Joining.{pins_of, AreJoined, IsNotLater}
 use Rattle.td_join.specs.Stacks.{IsTreeFault}
 use Rattle.td_join.proofs.Acceptance.{joined_is_tree, accepted_together}
 use Rattle.td_join.specs.Joining.{has_none}
@@ -33,10 +33,10 @@ returns-clause-joined c =
     (subst (λ (a : Admitted). AreJoined a a.pins (certificates_of c.in_ok-parts.parts.items) c.in_ok-nodes.nodes.items) c.admit-admit.ensures c.in_ok-nodes.ensures.tree) in
     let within = subst (λ (cs : List Certificate). c.greatest.result < length cs) c.deref-2.ensures.value c.greatest.ensures.within in
     let stands = slice_get_read c.args.certificates.items (length c.args.certificates.items) c.greatest.result c.index-first.result.now refl within c.index-first.ensures in
-    let most = subst (λ (cs : List Certificate). (worst : Certificate) → slice_get cs c.greatest.result ≡ Some worst → All (λ d. d.time ≤ worst.time) cs)
+    let most = subst (λ (cs : List Certificate). (worst : Certificate) → slice_get cs c.greatest.result ≡ Some worst → All (λ d. IsNotLater d.claim worst.claim) cs)
     c.deref-2.ensures.value c.greatest.ensures.greatest in
-    is_joined c.args.certificates.items c.args.gates c.args.question c.index-first.result.now c.greatest.result c.in_ok-pair.pair c.in_ok-nodes.nodes.items
-    c.from_nodes.result stands c.requires.alike (most c.index-first.result.now stands) c.in_ok-pair.ensures c.from_nodes.ensures joined c.requires.terms c.requires.told c.requires.closed
+    is_joined c.args.certificates.items c.args.gates c.args.question c.index-first.result.now c.greatest.result c.in_ok-claim.claim c.in_ok-nodes.nodes.items
+    c.from_nodes.result stands c.requires.alike (most c.index-first.result.now stands) c.in_ok-claim.ensures c.from_nodes.ensures joined c.requires.terms c.requires.told c.requires.closed
 
 pub returns-clause-accepted : goal.returns-clause-accepted
 returns-clause-accepted c netlist all =

@@ -1,8 +1,8 @@
-use Rattle.std.proofs.Common.{◌≡◌, ◌∙◌, ℕ, ◌≤◌, ◌^◌, ap, sym, subst}
+use Rattle.std.proofs.Common.{◌≡◌, ◌∙◌, ap, sym, subst}
 use Rattle.std.specs.List.{AllByRecursion}
 use Rattle.std.specs.Prelude.{map}
 use Rattle.td_refutation.specs.Whole.{step_of}
-use Rattle.td_certificate.specs.Steps.{IsStep, steps_text}
+use Rattle.td_certificate.specs.Steps.{IsStep, steps_text, IsBoundText}
 use Rattle.td_certificate.specs.Lines.{steps_in}
 use Rattle.td_certificate.specs.declared.refuting.Inside.{Inside}
 use Rattle.td_certificate.proofs.StepLoops.{steps_back, lines_of_steps}
@@ -31,4 +31,4 @@ returns-clause-spelled c =
     let steps : steps_in c.in_ok-inside.inside.value.lines.items ≡ map step_of c.args.steps.now =
     ap steps_in items ∙ steps_back (map step_of c.args.steps.now) all in
     let bound : c.in_ok-inside.inside.value.bound ≡ c.args.bound = ap (λ (inside : Inside). inside.bound) c.in_ok-inside.ensures.ok in
-    record { steps = subst (AllByRecursion IsStep) (sym steps) all; bound = subst (λ (n : ℕ). n ≤ 10 ^ 18) (sym bound) c.requires }
+    record { steps = subst (AllByRecursion IsStep) (sym steps) all; bound = subst IsBoundText (sym bound) c.requires }

@@ -1,2 +1,0 @@
-pub mod Hinted
-pub mod Lines

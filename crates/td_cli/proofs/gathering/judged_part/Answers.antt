@@ -1,6 +1,0 @@
-use Rattle.std.proofs.lemmas.Result.{IfErr-weaker}
-use Rattle.td_cli.proofs.gathering.judged_part.Goals as goal
-
-pub returns-else-is_checked-clause-refusal : goal.returns-else-is_checked-clause-refusal
-returns-else-is_checked-clause-refusal c =
-    IfErr-weaker c.read_part.result _ _ (λ reason has netlist. has c.args.text.now c.args.reading.now netlist c.args.is_checked) c.read_part.ensures.refusal

@@ -1,6 +1,0 @@
-use Rattle.td_cli.proofs.Joinings.{bad_part}
-use Rattle.td_cli.proofs.gathering.read_part.Goals as goal
-
-pub returns-in-Err-clause-refusal : goal.returns-in-Err-clause-refusal
-returns-in-Err-clause-refusal c = λ text reading netlist check.
-    bad_part text reading netlist check c.args.name c.args.bytes.now c.in-Err.fault c.unread.result c.in-Err.ensures.fault c.unread.ensures

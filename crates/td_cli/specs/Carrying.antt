@@ -1,0 +1,93 @@
+-- What a request does to standard output.
+use Rattle.std.specs.Prelude.{◌≡◌, ◌⊎◌, ℕ, List, [], ◌∷◌, codes, Bool, true, false, ◌||◌, take, Option, Some, None}
+use Rattle.std.specs.List.{AllZip}
+use Rattle.std.specs.Borrow.{Bor}
+use Rattle.std.specs.Global.{Vec}
+use Rattle.std.specs.Str.{bytes_eq}
+use Rattle.td_text.specs.Output.{Output, Sent, SentFront}
+use Rattle.td_files.specs.Disks.{Disk}
+use Rattle.td_lines.specs.declared.line.Line.{Line}
+use Rattle.td_lines.specs.Texts.{report_text}
+use Rattle.td_lines.specs.Values.{report_json}
+use Rattle.td_request.specs.declared.request.Command.{Command}
+use Rattle.td_request.specs.declared.request.Command.TheVariants as command
+use Rattle.td_request.specs.declared.request.Form.{Form}
+use Rattle.td_request.specs.declared.request.Form.TheVariants as form
+use Rattle.td_request.specs.declared.request.Request.{Request}
+use Rattle.td_answer.specs.declared.outcome.Outcome.{Outcome}
+use Rattle.td_answer.specs.declared.status.Status.{Status}
+use Rattle.td_answer.specs.declared.status.Status.TheVariants as status
+use Rattle.td_answer.specs.declared.refusal.Refusal.{Refusal}
+use Rattle.td_answer.specs.Outcomes.{SaysTrue, IsRefusedBy}
+use Rattle.td_answer.specs.Statuses.{status_of}
+use Rattle.td_command.specs.Conflicts.{conflict_of}
+use Rattle.td_cli.specs.Clashes.{HasClash, KeepsFiles}
+use Rattle.td_cli.specs.Files.{outputs_of, certificate_names}
+
+-- a report in its form
+abbrev pub print_of : Form → List Line → List ℕ
+print_of form.Text report = report_text report
+print_of form.Json report = report_json report
+print_of form.Quiet report = []
+
+-- a file goes to standard output
+abbrev pub goes_out : Option (Bor (List ℕ)) → Bool
+goes_out None = false
+goes_out (Some name) = bytes_eq name.now (codes "-")
+
+-- one of the files that a command writes does, in place of the report
+abbrev pub HasPlace : Command → Type 0
+HasPlace asked = (goes_out (outputs_of asked).certificate || goes_out (outputs_of asked).dump) ≡ true
+
+-- the print of an outcome went out whole, or a file did in its place
+abbrev pub IsShown : Request → Outcome → Output → Output → Type 0
+IsShown request outcome old new = Sent old new (print_of request.form outcome.report) ⊎ (HasPlace request.command × (new ≡ old))
+
+-- What went out of an outcome is a beginning of its print. Unless a device failed or memory ran
+-- out, it is whole, and the program ends as the outcome says.
+pub record Prints (request : Request) (outcome : Outcome) (ending : Status) (old new : Output) : Type 0 where
+  pub shown : SentFront old new (print_of request.form outcome.report)
+  pub whole : (ending ≡ status.Device) ⊎ ((ending ≡ outcome.status) × IsShown request outcome old new)
+
+-- the files of the first of these names hold these texts, one for each
+abbrev pub AreHeld : (List ℕ → List ℕ → Type 0) → List (List ℕ) → List (Vec ℕ) → Type 0
+AreHeld holds names texts = (count : ℕ) × AllZip (λ name (text : Vec ℕ). holds name text.items) (take count names) texts
+
+-- the texts of the files that a request names; of certificates there may be fewer
+pub record Holds (holds : List ℕ → List ℕ → Type 0) (request : Request) (netlist : List ℕ) (certificates : List (Vec ℕ)) : Type 0 where
+  pub file : holds request.file.now netlist
+  pub others : AreHeld holds (certificate_names request.command) certificates
+
+-- an outcome that is true of what the files hold was printed, and no file that the request writes is
+-- another one of it
+pub record PrintsTrue (disk : Disk) (request : Request) (ending : Status) (old new : Output) : Type 0 where
+  pub apart : KeepsFiles disk request
+  pub alone : conflict_of request ≡ None
+  pub netlist : List ℕ
+  pub certificates : List (Vec ℕ)
+  pub held : Holds disk.holds request netlist certificates
+  pub outcome : Outcome
+  pub is_true : SaysTrue request.command netlist request.reading certificates outcome
+  pub prints : Prints request outcome ending old new
+
+-- a reason that holds of what the files hold that the request names; the program ends with its
+-- status
+pub record HasReason (holds : List ℕ → List ℕ → Type 0) (request : Request) (ending : Status) : Type 0 where
+  pub netlist : List ℕ
+  pub certificates : List (Vec ℕ)
+  pub held : Holds holds request netlist certificates
+  pub reason : Refusal
+  pub is : IsRefusedBy request.command netlist request.reading certificates reason
+  pub ends : ending ≡ status_of reason
+
+-- Why there is no outcome, by the status: a device failed, or memory ran out; or options or files of
+-- the request clash; or there is a reason.
+abbrev pub IsEndWithout : Disk → Request → Status → Type 0
+IsEndWithout disk request ending =
+    (ending ≡ status.Device) ⊎ (((ending ≡ status.BadCommand) × HasClash disk request) ⊎ HasReason disk.holds request ending)
+
+-- A request was carried out: an outcome that is true of what its files hold was printed, or nothing
+-- went out, since there is none.
+abbrev pub Carries : Disk → Request → Status → Output → Output → Type 0
+Carries disk request ending old new =
+    PrintsTrue disk request ending old new ⊎ ((new ≡ old) × IsEndWithout disk request ending)

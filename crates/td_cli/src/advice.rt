@@ -1,0 +1,114 @@
+//! Whether hints are wanted, and why a file can't be read or written, as far as the system says.
+
+use std::io::ErrorKind;
+use std::path::Path;
+use std::{fs, rt};
+
+/// Who says whether hints are wanted, and why a file can't be read or written.
+pub trait Advice {
+    /// Whether a hint follows a refusal. The words of the command line ask for hints, or don't.
+    fn is_wanted(&self, asked: bool) -> bool;
+
+    /// Why a file of this name can't be read, where that is known.
+    fn unreadable(&self, name: &str) -> Option<&'static [u8]>;
+
+    /// Why no file of this name can be written, where that is known.
+    fn unwritable(&self, name: &str) -> Option<&'static [u8]>;
+}
+
+/// No hints.
+#[derive(Clone, Copy, Drop)]
+pub struct NoAdvice;
+
+impl Advice for NoAdvice {
+    fn is_wanted(&self, _asked: bool) -> bool {
+        false
+    }
+
+    fn unreadable(&self, _name: &str) -> Option<&'static [u8]> {
+        None
+    }
+
+    fn unwritable(&self, _name: &str) -> Option<&'static [u8]> {
+        None
+    }
+}
+
+/// The system that a runtime stands for. At a terminal hints are wanted unasked.
+#[derive(Drop)]
+pub struct System<'r, R> {
+    rt: &'r R,
+    terminal: bool,
+}
+
+impl<'r, R: rt::Files> System<'r, R> {
+    /// The system of this runtime.
+    pub fn new(rt: &'r R, terminal: bool) -> Self {
+        System { rt, terminal }
+    }
+
+    /// Why the folder of a name can't hold a file, where that is known.
+    fn folder(&self, name: &str) -> Option<&'static [u8]> {
+        let path = Path::new(name);
+        let parent = path.parent()?;
+        if parent.as_str().is_empty() {
+            return None;
+        }
+        match fs::metadata(self.rt, parent.as_str()) {
+            Ok(known) if known.is_dir() => None,
+            Ok(_file) => Some(b"its folder is a file"),
+            Err(error) if error.kind() == ErrorKind::NotFound => Some(b"there is no such folder"),
+            Err(error) => Some(sentence(error.kind())),
+        }
+    }
+}
+
+/// Whether a file that is read under this name is standard input.
+fn is_input(name: &str) -> bool {
+    name == "stdin" || name == "-"
+}
+
+impl<'r, R: rt::Files> Advice for System<'r, R> {
+    fn is_wanted(&self, asked: bool) -> bool {
+        asked || self.terminal
+    }
+
+    fn unreadable(&self, name: &str) -> Option<&'static [u8]> {
+        if is_input(name) {
+            return None;
+        }
+        match fs::metadata(self.rt, name) {
+            Ok(known) if known.is_dir() => Some(b"it is a folder"),
+            Ok(known) if known.is_file() => match fs::open(self.rt, name) {
+                Ok(_file) => None,
+                Err(error) => Some(sentence(error.kind())),
+            },
+            Ok(_device) => None,
+            Err(error) => Some(sentence(error.kind())),
+        }
+    }
+
+    fn unwritable(&self, name: &str) -> Option<&'static [u8]> {
+        match fs::metadata(self.rt, name) {
+            Ok(known) if known.is_dir() => Some(b"it is a folder"),
+            Ok(_known) => None,
+            Err(error) if error.kind() == ErrorKind::NotFound => self.folder(name),
+            Err(error) => Some(sentence(error.kind())),
+        }
+    }
+}
+
+/// What an error of the system says.
+fn sentence(kind: ErrorKind) -> &'static [u8] {
+    match kind {
+        ErrorKind::NotFound => b"there is no file of this name",
+        ErrorKind::PermissionDenied => b"permission denied",
+        ErrorKind::NotADirectory => b"a name on the way to it is no folder",
+        ErrorKind::IsADirectory => b"it is a folder",
+        ErrorKind::ReadOnlyFilesystem => b"the file system is read-only",
+        ErrorKind::StorageFull | ErrorKind::QuotaExceeded => b"there is no room on the disk",
+        ErrorKind::FilesystemLoop => b"symbolic links lead in a circle",
+        ErrorKind::InvalidFilename | ErrorKind::InvalidInput => b"no file can have this name",
+        _ => b"the system doesn't let it be opened",
+    }
+}

@@ -1,0 +1,8 @@
+use Rattle.td_command.proofs.CommandLines.{only_bound}
+use Rattle.td_command.proofs.requests.bound.Goals as goal
+
+pub returns-in_err-edges : goal.returns-in_err-edges
+returns-in_err-edges c = rw c.from_residual.ensures (only_bound (λ asked has. c.in_err-edges.ensures _ has.edges))
+
+pub returns-in_err-outputs : goal.returns-in_err-outputs
+returns-in_err-outputs c = rw c.from_residual-in_err-outputs.ensures (only_bound (λ asked has. c.in_err-outputs.ensures _ has.outputs))

@@ -1,0 +1,5 @@
+use Rattle.td_command.proofs.CommandLines.{only_join}
+use Rattle.td_command.proofs.requests.joined.Goals as goal
+
+pub returns-in_err-check : goal.returns-in_err-check
+returns-in_err-check c = rw c.from_residual.ensures (only_join (λ asked has. c.in_err-check.ensures _ has.check))

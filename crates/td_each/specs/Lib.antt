@@ -1,4 +1,0 @@
-pub mod Rows
-pub mod Reports
-pub mod Ends
-pub mod Truths

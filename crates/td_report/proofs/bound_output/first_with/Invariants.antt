@@ -1,5 +1,0 @@
-use Rattle.td_report.specs.BoundOutputs.{NoneBefore}
-use Rattle.td_report.proofs.bound_output.first_with.Given as goal
-
-abbrev pub invariant-loop-net : goal.invariant-loop-net
-invariant-loop-net g l = NoneBefore g.D.Domain.functions.last_of l.signals l.nets l.last l.net-index

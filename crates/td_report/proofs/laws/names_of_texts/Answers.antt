@@ -1,5 +1,0 @@
-use Rattle.td_report.proofs.DumpNames.{names_fine}
-use Rattle.td_report.proofs.laws.names_of_texts.Goals as goal
-
-pub returns : goal.returns
-returns c = names_fine
