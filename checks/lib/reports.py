@@ -13,9 +13,12 @@ def values_of(report):
 
 
 def figures_of(report):
-    """The figures of a search, None where there are none: both are the time of an exact answer."""
+    """The figures of a search, None where there are none: both are the time of an exact answer, or
+    of what `check` accepts.
+    """
     values = values_of(report)
-    words = values.get("exact", "").split() * 2 or values.get("between", "").split()
+    exact = values.get("exact") or values.get("accepted", "")
+    words = exact.split() * 2 or values.get("between", "").split()
     if len(words) != 2 or not all(word.isdigit() for word in words):
         return None
     return Figures(*map(int, words))
@@ -31,8 +34,8 @@ def rows_of(report):
 
 
 def is_exact(report):
-    """Whether a search answered exactly."""
-    return "exact" in values_of(report)
+    """Whether a search answered exactly, or `check` accepted a time."""
+    return not values_of(report).keys().isdisjoint(("exact", "accepted"))
 
 
 def finds_no_pair(done):
@@ -57,7 +60,7 @@ def accepted_time(report):
 
 # What the lines of a report are by their keys: one number, several, or a row of fields of which
 # those at these places are numbers. Those of LISTED come several times; all others are texts.
-NUMBER = "time a t m e n exact nodes accepted flips inputs outputs gates defaulted depth".split()
+NUMBER = "time a t m e n exact unchecked nodes accepted flips inputs outputs gates defaulted depth".split()
 NUMBERS = "between delay at".split()
 ROWS = {"last": {1}, "change": {0, 5}, "input": {0}, "output": {0}, "refused": {0, 3}}
 LISTED = "last change input output each".split()

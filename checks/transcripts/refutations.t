@@ -454,20 +454,20 @@ Parts of which one has a leaf by spans are joined into one of version 4, the lea
   $ tdelay check early.v whole
   accepted 4
 
-With `--check` each part's steps are looked at, without it they aren't.
+Each part's steps are looked at, with `--no-check` they aren't.
 
-  $ tdelay join early.v --check zero one | head -n 3
+  $ tdelay join early.v zero one | head -n 3
   unit 1 ns
   defaulted 0
   exact 4
   $ sed 's/ 2 0 1$/ 2 0/' one > hintless
-  $ tdelay join early.v --check zero hintless
+  $ tdelay join early.v zero hintless
   tdelay: hintless: refused 10 BadStep line 23
   [4]
-  $ tdelay join early.v zero hintless --cert whole | head -n 3
+  $ tdelay join early.v zero hintless --no-check --cert whole | head -n 3
   unit 1 ns
   defaulted 0
-  exact 4
+  unchecked 4
   $ tdelay check early.v whole
   refused 10 BadStep line 27
   [4]

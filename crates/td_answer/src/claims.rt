@@ -219,7 +219,7 @@ fn tell_all(alloc: Global, report: &mut Report, question: &Question) -> Result<(
 }
 
 /// Appends the lines that say what a certificate is about, as its text of this version has them.
-fn push_question(
+pub(crate) fn push_question(
     alloc: Global,
     report: &mut Report,
     version: Version,

@@ -175,14 +175,23 @@ fn checked() -> Command<'static> {
     })
 }
 
-/// Parts of these files.
-fn joined(alloc: Global, names: &[&'static str], check: bool) -> Result<Command<'static>, Fail> {
+/// Parts of these files, with at most so many flips.
+fn joined(
+    alloc: Global,
+    names: &[&'static str],
+    check: bool,
+    flips: u64,
+) -> Result<Command<'static>, Fail> {
     let names = Vec::from_slice(alloc, names)?;
+    let question = Question {
+        inputs: pinned(None),
+        flips: Some(flips),
+    };
     Ok(Command::Join(Join {
         parts: Files::new(names),
+        question,
         certificate: None,
         check,
-        inputs: pinned(None),
     }))
 }
 
@@ -277,26 +286,34 @@ fn checks_conditions(rt: HostRuntime) -> Result<(), Fail> {
     Ok(())
 }
 
-/// Two parts of a question are joined, in either way; parts that overlap aren't.
+/// Two parts of a question are joined, in either way; parts that overlap aren't, nor one alone, nor
+/// parts of another question.
 #[test]
 fn joins(rt: HostRuntime) -> Result<(), Fail> {
     let alloc = rt.alloc();
     let mut texts = Vec::new(alloc);
     push_certificate(&rt, alloc, Some("0."), &mut texts)?;
     let missing = b"tdelay: cannot read p1\n";
-    let both = joined(alloc, &["p0", "p1"], true)?;
+    let both = joined(alloc, &["p0", "p1"], true, 2)?;
     assert!(rt; says(&rt, alloc, both, &texts, Status::Device, missing)?);
     push_certificate(&rt, alloc, Some("1."), &mut texts)?;
     let report = b"unit 1 ns\ndefaulted 0\nexact 5\nfrom 01\nto 00\nnodes 15\n";
-    let both = joined(alloc, &["p0", "p1"], true)?;
+    let both = joined(alloc, &["p0", "p1"], true, 2)?;
     assert!(rt; says(&rt, alloc, both, &texts, Status::Done, report)?);
-    let both = joined(alloc, &["p0", "p1"], false)?;
-    assert!(rt; says(&rt, alloc, both, &texts, Status::Done, report)?);
+    let unchecked = b"unit 1 ns\ndefaulted 0\nunchecked 5\nfrom 01\nto 00\nnodes 15\n";
+    let both = joined(alloc, &["p0", "p1"], false, 2)?;
+    assert!(rt; says(&rt, alloc, both, &texts, Status::Done, unchecked)?);
+    let gap = b"tdelay: no part for --first 1. --second ..\n";
+    let one = joined(alloc, &["p0"], true, 2)?;
+    assert!(rt; says(&rt, alloc, one, &texts, Status::Rejected, gap)?);
+    let other = b"tdelay: parts of another question: other flips\n";
+    let both = joined(alloc, &["p0", "p1"], true, 1)?;
+    assert!(rt; says(&rt, alloc, both, &texts, Status::Rejected, other)?);
     let mut same = Vec::new(alloc);
     push_certificate(&rt, alloc, Some("0."), &mut same)?;
     push_certificate(&rt, alloc, Some("0."), &mut same)?;
     let overlap = b"tdelay: cannot join p0 and p0: a pair in both\n";
-    let both = joined(alloc, &["p0", "p0"], false)?;
+    let both = joined(alloc, &["p0", "p0"], false, 2)?;
     assert!(rt; says(&rt, alloc, both, &same, Status::Rejected, overlap)?);
     Ok(())
 }
@@ -310,8 +327,8 @@ fn claims_no_pair(rt: HostRuntime) -> Result<(), Fail> {
     let never = b"accepted none\nsecond 0.\nkeep 2 .0 2 01\n";
     assert!(rt; says(&rt, alloc, checked(), &texts, Status::Done, never)?);
     texts.push(Vec::from_slice(alloc, NEVER[1])?)?;
-    let both = joined(alloc, &["p0", "p1"], true)?;
-    let report = b"unit 1 ns\ndefaulted 0\nno admitted pair\nnodes 3\n";
+    let both = joined(alloc, &["p0", "p1"], true, 2)?;
+    let report = b"unit 1 ns\ndefaulted 0\nno admitted pair\nnodes 3\nkeep 2 .0 2 01\n";
     assert!(rt; says(&rt, alloc, both, &texts, Status::Done, report)?);
     Ok(())
 }

@@ -10,7 +10,7 @@ use crate::names::about_word;
 use crate::outputs::read_as;
 use crate::refusals::{
     NetlistText, certificate_fault, memory, netlist_fault, no_pair, no_timer, not_accepted,
-    not_joined, on_loop, one_file, too_long, unreadable, unwritable,
+    not_joined, on_loop, one_file, other_question, too_long, unreadable, unwritable,
 };
 use crate::vectors::{about_vector, no_output};
 use std::alloc::{AllocError, Global};
@@ -147,6 +147,7 @@ impl<'r, 'w, 't> Case<'r, 'w, 't> {
             Refusal::Unaccepted(name, verdict) => not_accepted(text, name, *verdict),
             Refusal::OtherCircuit(name) => not_accepted(text, name, Verdict::OtherCircuit),
             Refusal::NotJoined(fault) => not_joined(text, fault),
+            Refusal::OtherQuestion(difference) => other_question(text, *difference),
             Refusal::TooLong => too_long(text),
         }
     }

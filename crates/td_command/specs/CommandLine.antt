@@ -1,5 +1,5 @@
 -- The command line in the form that the parser of command lines takes, and what the words ask for.
-use Rattle.std.specs.Prelude.{⊤, ◌≡◌, ℕ, ◌≤◌, ◌<◌, ◌^◌, Bool, List, [], ◌∷◌, ◌++◌, codes, length, map, pos, true, Option, Some, None, option_map}
+use Rattle.std.specs.Prelude.{⊤, ◌≡◌, ℕ, ◌≤◌, ◌<◌, ◌^◌, Bool, List, [], ◌∷◌, ◌++◌, codes, length, map, not, pos, true, Option, Some, None, option_map}
 use Rattle.std.specs.Borrow.{Bor}
 use Rattle.std.specs.List.{fold}
 use Rattle.std.specs.Str.Parse.{IsNumeral, digits_value, without_leading_plus}
@@ -133,8 +133,8 @@ parts_command strategies =
 
 abbrev pub join_command : App
 join_command =
-    command_of (codes "join") (needed (codes "FILE") ∷ needed_words (codes "CERT") ∷ certificate_rule ∷ flag (codes "check") ∷ cube_rules
-    ++ option (codes "output") ∷ [])
+    command_of (codes "join") (needed (codes "FILE") ∷ needed_words (codes "CERT") ∷ certificate_rule ∷ flag (codes "check") ∷ flag (codes "no-check") ∷
+    admitted_rules ++ option (codes "at") ∷ option (codes "output") ∷ [])
 
 abbrev pub check_command : App
 check_command = command_of (codes "check") (needed (codes "FILE") ∷ needed (codes "CERT") ∷ option (codes "output") ∷ [])
@@ -207,6 +207,10 @@ HasWords id rows words = (all_of id rows ≡ Some words) × (0 < length words)
 -- the flag is given, or left out
 abbrev pub HasFlag : Text → List Row → Bool → Type 0
 HasFlag id rows given = one_of id rows ≡ Some (bool_text given)
+
+-- the flag is left out, or given
+abbrev pub LacksFlag : Text → List Row → Bool → Type 0
+LacksFlag id rows left_out = HasFlag id rows (not left_out)
 
 abbrev pub delays : ℕ → ℕ → Delays
 delays rise fall = record { rise = rise; fall = fall }

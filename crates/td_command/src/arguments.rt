@@ -6,7 +6,7 @@ ghost use Rattle.td_command.specs.CommandLine.{needed, needed_words, needed_numb
 ghost use Rattle.td_command.specs.CommandLine.{with_letter, workers_letter, quiet_letter, common_rules, pair_rules, cube_rules, admitted_rules, strategy_rule, certificate_rule, search_rules};
 ghost use Rattle.td_command.specs.Telling.{reported, TellsRule, TellsRules};
 
-use crate::help::{FREE_HELP, LATEST_HELP, WHOLE_HELP};
+use crate::help::LATEST_HELP;
 use clap::builder::ValueParser;
 use clap::{Arg, ArgAction, Command};
 use std::alloc::{AllocError, Global};
@@ -323,10 +323,15 @@ shows, or `none` if there are no inputs",
     }
 
     /// The pairs of a cube, as two options, and an option that pins inputs by their names.
-    pub(crate) fn cube(&mut self, first_help: &'a str) -> Result<(), AllocError>
+    pub(crate) fn cube(&mut self) -> Result<(), AllocError>
         ensures { OnOk result (TellsRules cube_rules self.old self.new) }
     {
-        self.option("first", "TRITS", first_help)?;
+        self.option(
+            "first",
+            "TRITS",
+            "The first vector: 0, 1 or . (free) for each input in the order that\n\
+`info` shows; all free if left out",
+        )?;
         self.option(
             "second",
             "TRITS",
@@ -375,7 +380,7 @@ nodes handled pass 1, 2, 5, 10, 20, .. thousand, and every ten seconds",
     pub(crate) fn admitted(&mut self) -> Result<(), AllocError>
         ensures { OnOk result (TellsRules admitted_rules self.old self.new) }
     {
-        self.cube(FREE_HELP)?;
+        self.cube()?;
         self.option(
             "hold",
             "MASK",
@@ -479,9 +484,10 @@ lies between two figures",
         )
     }
 
-    /// The certificates that are joined, where theirs goes, and whether each is checked.
+    /// The certificates that are joined, where theirs goes, and whether each is checked, which is
+    /// said or left out.
     pub(crate) fn joined(&mut self) -> Result<(), AllocError>
-        ensures { OnOk result (TellsRules (needed_words (codes "CERT") ∷ certificate_rule ∷ flag (codes "check") ∷ []) self.old self.new) }
+        ensures { OnOk result (TellsRules (needed_words (codes "CERT") ∷ certificate_rule ∷ flag (codes "check") ∷ flag (codes "no-check") ∷ []) self.old self.new) }
     {
         self.needed_words(
             "CERT",
@@ -492,7 +498,12 @@ standard input",
         self.flag(
             "check",
             "Checks the certificate of each part before it is joined, as `check`\n\
-does",
+does; so it is without this too",
+        )?;
+        self.flag(
+            "no-check",
+            "Joins certificates that aren't checked, which is quicker: the report\n\
+says `unchecked T` in place of `exact T`",
         )
     }
 

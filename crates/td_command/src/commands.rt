@@ -7,8 +7,8 @@ ghost use Rattle.td_command.specs.Telling.{reported, offering, OffersCommand, Of
 
 use crate::arguments::Arguments;
 use crate::help::{
-    BOUND_HELP, BOUND_OUTPUT_HELP, CHAIN_HELP, CHECK_HELP, FREE_HELP, HELP, INFO_HELP, JOIN_HELP,
-    LATEST_HELP, OUTPUT_HELP, PARTS_HELP, PATH_HELP, SIM_HELP, VERSION, WHOLE_HELP, WORST_HELP,
+    BOUND_HELP, BOUND_OUTPUT_HELP, CHAIN_HELP, CHECK_HELP, HELP, INFO_HELP, JOIN_HELP, LATEST_HELP,
+    OUTPUT_HELP, PARTS_HELP, PATH_HELP, SIM_HELP, VERSION, WORST_HELP,
 };
 use clap::Command;
 use std::alloc::{AllocError, Global};
@@ -97,7 +97,7 @@ impl<'a> Commands<'a> {
     {
         let mut arguments = Arguments::new(self.alloc);
         arguments.file()?;
-        arguments.cube(FREE_HELP)?;
+        arguments.cube()?;
         arguments.moments()?;
         arguments.edges()?;
         arguments.outputs(BOUND_OUTPUT_HELP)?;
@@ -155,7 +155,8 @@ answers each",
         let mut arguments = Arguments::new(self.alloc);
         arguments.file()?;
         arguments.joined()?;
-        arguments.cube(WHOLE_HELP)?;
+        arguments.admitted()?;
+        arguments.moments()?;
         arguments.output(OUTPUT_HELP)?;
         arguments.common()?;
         self.add(

@@ -2,7 +2,7 @@
 
 ghost use Rattle.std.specs.Prelude.{◌<◌, ◌^◌, ℕ, IfSome, IfNone, IfOk};
 ghost use Rattle.clap.specs.Words.{found_of, rows_of};
-ghost use Rattle.td_command.specs.CommandLine.{HasNumber, HasCount, HasFlag, HasWord, HasWords, HasDefault, HasReading, HasWholeReading, HasWorkers, HasBudget, HasParts, IsAnswered, IsGiven};
+ghost use Rattle.td_command.specs.CommandLine.{HasNumber, HasCount, HasFlag, LacksFlag, HasWord, HasWords, HasDefault, HasReading, HasWholeReading, HasWorkers, HasBudget, HasParts, IsAnswered, IsGiven};
 
 use clap::ArgMatches;
 use std::alloc::{AllocError, Global};
@@ -77,6 +77,14 @@ pub(crate) fn flag_given(matches: &ArgMatches<'_>, id: &str) -> Option<bool>
     ensures { IsAnswered (HasFlag id.now (rows_of (found_of matches.now))) result }
 {
     matches.get_one::<bool>(id)
+}
+
+/// Whether a flag is left out.
+pub(crate) fn flag_left_out(matches: &ArgMatches<'_>, id: &str) -> Option<bool>
+    ensures { IsAnswered (LacksFlag id.now (rows_of (found_of matches.now))) result }
+{
+    let given = flag_given(matches, id)?;
+    Some(!given)
 }
 
 /// The delay of gates that state none.

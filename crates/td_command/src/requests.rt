@@ -7,8 +7,8 @@ ghost use Rattle.td_command.specs.CommandLine.{HasWords, IsAnswered};
 ghost use Rattle.td_command.specs.Saying.{SaysInputs, SaysQuestion, SaysStrategy, SaysEffort, SaysShown, SaysForm, is_about_all, SaysReading, SaysCommon, SaysCommand, SaysRequest, EntersRequest};
 
 use crate::options::{
-    budget, count, files, flag_given, needed, parts as parts_number, reading, whole_reading, word,
-    workers,
+    budget, count, files, flag_given, flag_left_out, needed, parts as parts_number, reading,
+    whole_reading, word, workers,
 };
 use clap::ArgMatches;
 use std::alloc::{AllocError, Global};
@@ -173,14 +173,14 @@ fn joined<'a>(
     requires { HasWords (codes "CERT") (rows_of (found_of matches.now)) parts }
     ensures { IsAnswered (SaysCommand (codes "join") (rows_of (found_of matches.now)) named.entry.now) result }
 {
-    let check = flag_given(matches, "check")?;
+    let question = question(matches, named)?;
+    let check = flag_left_out(matches, "no-check")?;
     let certificate = word(matches, "cert");
-    let inputs = inputs(matches, named);
     Some(Command::Join(Join {
         parts,
+        question,
         certificate,
         check,
-        inputs,
     }))
 }
 

@@ -147,6 +147,10 @@ pub enum Line {
     },
     /// Where it claims that no pair is admitted.
     AcceptedNone,
+    /// The time of certificates that are joined and weren't checked.
+    Unchecked(u64),
+    /// Where they claim that no pair is admitted.
+    UncheckedNone,
     /// The delays of gates that state none, in steps, of a certificate.
     Default {
         rise: u64,

@@ -117,6 +117,8 @@ fn member(alloc: Global, writer: &mut Writer, line: &Line) -> Result<(), AllocEr
         Line::Accepted(time) => count_of(writer, "accepted", *time),
         Line::AcceptedBetween { .. } => bound(writer, "accepted", None),
         Line::AcceptedNone => bound(writer, "accepted", None),
+        Line::Unchecked(time) => count_of(writer, "unchecked", *time),
+        Line::UncheckedNone => bound(writer, "unchecked", None),
         Line::Default { rise, fall } => claims::default(alloc, writer, *rise, *fall),
         Line::OutputNumber(number) => claims::output_number(writer, *number),
         Line::First(pins) => word(writer, "first", pins.text()),

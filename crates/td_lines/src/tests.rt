@@ -158,6 +158,8 @@ fn told(alloc: Global) -> Result<Report, AllocError> {
     let mut report = Report::new(alloc);
     report.add(Line::AcceptedBetween { time: 2, high: 5 })?;
     report.add(Line::AcceptedNone)?;
+    report.add(Line::Unchecked(3))?;
+    report.add(Line::UncheckedNone)?;
     report.add(Line::Default { rise: 1, fall: 3 })?;
     report.add(Line::OutputNumber(None))?;
     report.add(Line::OutputNumber(Some(4)))?;
@@ -246,8 +248,10 @@ fn prints_what_is_told(rt: HostRuntime) -> Result<(), Fail> {
         &rt,
         rt.alloc(),
         &report,
-        "accepted between 2 5\naccepted none\ndefault 1 3\noutput all\noutput 4\nkeep 2 01 5 ==\n",
-        "{\"accepted\":null,\"accepted\":null,\"default\":\"1 3\",\"output\":[\"all\"],\
+        "accepted between 2 5\naccepted none\nunchecked 3\nunchecked none\ndefault 1 3\noutput all\n\
+output 4\nkeep 2 01 5 ==\n",
+        "{\"accepted\":null,\"accepted\":null,\"unchecked\":3,\"unchecked\":null,\
+\"default\":\"1 3\",\"output\":[\"all\"],\
 \"output\":[[4]],\
 \"keep\":\"2 01 5 ==\"}\n",
     )

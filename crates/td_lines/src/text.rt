@@ -73,6 +73,8 @@ impl Printed for Line {
             Line::Accepted(time) => number(out, b"accepted ", *time),
             Line::AcceptedBetween { time, high } => accepted_between(out, *time, *high),
             Line::AcceptedNone => out.push(b"accepted none\n"),
+            Line::Unchecked(time) => number(out, b"unchecked ", *time),
+            Line::UncheckedNone => out.push(b"unchecked none\n"),
             Line::Default { rise, fall } => default(out, *rise, *fall),
             Line::OutputNumber(number) => output_number(out, *number),
             Line::First(pins) => word(out, b"first ", pins),

@@ -96,12 +96,12 @@ pub struct Parts<'a> {
 pub struct Join<'a> {
     /// The files of the parts' certificates, in order.
     pub parts: Files<'a>,
-    /// Where the certificate of the whole question goes.
+    /// The whole question.
+    pub question: Question<'a>,
+    /// Where its certificate goes.
     pub certificate: Option<&'a str>,
-    /// Whether each part's certificate is checked too.
+    /// Whether each part's certificate is checked.
     pub check: bool,
-    /// What is pinned in all pairs of the whole question.
-    pub inputs: Inputs<'a>,
 }
 
 /// The verdict on a certificate.
