@@ -256,8 +256,8 @@ def join_words(rng, inputs):
     return [
         "t.v",
         *names,
-        *pins(rng, inputs, 0.1),
-        *flags(rng, ("--check",), ("--cert", "out.cert")),
+        *(question(rng, inputs) if rng.random() < 0.3 else []),
+        *flags(rng, ("--check",), ("--no-check",), ("--cert", "out.cert")),
     ]
 
 

@@ -14,10 +14,10 @@ def values_of(report):
 
 def figures_of(report):
     """The figures of a search, None where there are none: both are the time of an exact answer, or
-    of what `check` accepts.
+    of parts that are joined unchecked.
     """
     values = values_of(report)
-    exact = values.get("exact") or values.get("accepted", "")
+    exact = values.get("exact") or values.get("unchecked", "")
     words = exact.split() * 2 or values.get("between", "").split()
     if len(words) != 2 or not all(word.isdigit() for word in words):
         return None
@@ -34,8 +34,8 @@ def rows_of(report):
 
 
 def is_exact(report):
-    """Whether a search answered exactly, or `check` accepted a time."""
-    return not values_of(report).keys().isdisjoint(("exact", "accepted"))
+    """Whether a search, or parts that are joined unchecked, answered exactly."""
+    return not values_of(report).keys().isdisjoint(("exact", "unchecked"))
 
 
 def finds_no_pair(done):

@@ -33,6 +33,10 @@ What `--json` prints: one object on one line, with the keys of the report's line
   {"unit":"1 ns","defaulted":6,"exact":3,"from":"00000","to":"11111","nodes":1}
   $ tdelay worst $NETLISTS/c17.v --first 1.... --cert 2.cert --json
   {"unit":"1 ns","defaulted":6,"exact":3,"from":"10000","to":"01111","nodes":1}
+  $ tdelay join $NETLISTS/c17.v 1.cert 2.cert --no-check --json
+  {"unit":"1 ns","defaulted":6,"unchecked":3,"from":"00000","to":"11111","nodes":3}
+  $ tdelay join $NETLISTS/c17.v 1.cert --first 0.... --json
+  {"unit":"1 ns","defaulted":6,"exact":3,"from":"00000","to":"11111","nodes":1,"first":"0....","second":".....","hold":".....","flips":5}
   $ tdelay join $NETLISTS/c17.v 1.cert 2.cert --cert c17.cert --json
   {"unit":"1 ns","defaulted":6,"exact":3,"from":"00000","to":"11111","nodes":3}
   $ tdelay info $NETLISTS/hazard.v --json

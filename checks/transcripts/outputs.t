@@ -126,6 +126,7 @@ The netlist with one output: bounds, a search, its certificate, and parts of it.
   from 00
   to 11
   nodes 7
+  output 0
   $ tdelay check two.v all.cert --output y
   accepted 2
   output 0
