@@ -30,7 +30,7 @@ use Rattle.td_answer.specs.declared.status.Status.TheVariants as status
 
 -- the text is read as before, but of the output of this name alone
 abbrev pub alone : Reading → Bor (List ℕ) → Reading
-alone reading word = record { default = reading.default; output = Some word }
+alone reading word = record { default = reading.default; outputs = word.now ∷ [] }
 
 -- An exact figure is the worst delay of the admitted pairs in this setting. Where there are two
 -- figures, some admitted pair has the lower one, and none has a greater one than the upper.

@@ -135,10 +135,7 @@ fn row_of<'n, 'w, R: Threads + Wait + Clock + Sync>(
     ensures row { IfOk result (IsTrueRow text.now reading.now search.now name.now) }
     ensures refusal { IfErr result (RowFails text.now reading.now search.now name.now) }
 {
-    let alone = Reading {
-        default: reading.default,
-        output: Some(name),
-    };
+    let alone = Reading::of_one(alloc, reading.default, name)?;
     let timing = timing_of(rt, alloc, text, &alone, search)?;
     let name = String::from_str(alloc, name)?;
     Ok(Row {
