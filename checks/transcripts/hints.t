@@ -675,7 +675,7 @@ Each reason why certificates aren't joined.
   $ tdelay join and.v --no-check low --first .. --second .. --hints
   tdelay: no part for --first 1. --second ..
   a part is missing: admitted pairs lie in no certificate
-    help: search the missing part: worst with the --first and --second that the line above has, and --cert; then join all
+    help: search the missing part: worst with the --first and --second that the line above has, and --cert; then join all, or tell join the narrower question
   [4]
   $ tdelay join and.v --no-check low empty --hints
   tdelay: empty: a leaf without a pair

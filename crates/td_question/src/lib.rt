@@ -9,7 +9,6 @@ mod cube;
 mod fault;
 mod names;
 mod pair;
-mod pins;
 mod placed;
 #[cfg(test)]
 mod tests;
@@ -20,4 +19,3 @@ pub use asking::{Asked, question_of};
 pub use cube::{CubeAsked, cube_of};
 pub use fault::QuestionFault;
 pub use pair::{PairAsked, pair_of};
-pub use pins::{PinsAsked, pins_of};
