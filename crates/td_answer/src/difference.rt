@@ -26,11 +26,7 @@ fn hold_same(this: &[bool], that: &[bool]) -> bool
 }
 
 /// In what a question differs from that about a circuit and these pairs, if it does, but for pins.
-pub(crate) fn difference(
-    circuit: &Circuit,
-    admit: &Admit,
-    question: &Question,
-) -> Option<Difference>
+pub(crate) fn differing(circuit: &Circuit, admit: &Admit, question: &Question) -> Option<Difference>
     ensures same { IfNone result (AsksSame circuit.now.moments admit.now question.now) }
     ensures differs { IfSome result (DiffersIn circuit.now.moments admit.now question.now) }
 {

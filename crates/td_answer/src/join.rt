@@ -11,7 +11,7 @@ ghost use Rattle.td_answer.specs.Joins.{texts_of, most_nodes, IsUnjoinedFor, IsT
 ghost use Rattle.td_answer.specs.Unjoined.{IsOfUnjoined};
 ghost use Rattle.td_answer.specs.Writing.{CanBeWritten};
 
-use crate::difference::difference;
+use crate::difference::differing;
 use crate::gathering::parts_in;
 use crate::joined::joined;
 use crate::outcome::Outcome;
@@ -104,7 +104,7 @@ fn whole_of<'n, 'w>(
     if whole.tree.nodes().len() > MOST_NODES as usize {
         return Err(Refusal::TooLong);
     }
-    match difference(circuit, admit, &whole.question) {
+    match differing(circuit, admit, &whole.question) {
         None => Ok(whole),
         Some(difference) => Err(Refusal::OtherQuestion(difference)),
     }
