@@ -190,7 +190,7 @@ fn prints_a_netlist(rt: HostRuntime) -> Result<(), Fail> {
         &report,
         "module t\nunit 10 ps\ninputs 1\noutputs 1\ngates 2\ndefaulted 0\ndepth 2\ndelay 2 3\n\
 delay none\ninput 0 \\a+ [1]\noutput 0 y\n",
-        "{\"module\":\"t\",\"unit\":\"10 ps\",\"inputs\":1,\"outputs\":1,\"gates\":2,\"defaulted\":0,\
+        "{\"proved\":true,\"module\":\"t\",\"unit\":\"10 ps\",\"inputs\":1,\"outputs\":1,\"gates\":2,\"defaulted\":0,\
 \"depth\":2,\"delay\":[2,3],\"delay\":null,\"input\":[[0,\"\\\\a+ [1]\"]],\"output\":[[0,\"y\"]]}\n",
     )
 }
@@ -204,7 +204,7 @@ fn prints_a_run(rt: HostRuntime) -> Result<(), Fail> {
         &report,
         "last y 5\nlast z never\ntime 5\noutput y\nchange 0 a 0 x input\nchange 5 y x 1 xnor 5\n\
 a 7\nt none\n",
-        "{\"last\":[[\"y\",5],[\"z\",null]],\"time\":5,\"output\":[\"y\"],\
+        "{\"proved\":true,\"last\":[[\"y\",5],[\"z\",null]],\"time\":5,\"output\":[\"y\"],\
 \"change\":[[0,\"a\",\"0\",\"x\",\"input\"],[5,\"y\",\"x\",\"1\",\"xnor\",5]],\"a\":7,\"t\":null}\n",
     )
 }
@@ -218,7 +218,7 @@ fn prints_a_search(rt: HostRuntime) -> Result<(), Fail> {
         &report,
         "exact 5\nbetween 2 5\nno admitted pair\ncause budget\nfrom 01\nto none\nnodes 9\neach y exact 5 edges 7\n\
 each exact between 2 5 edges none\n--first 0.\n",
-        "{\"exact\":5,\"between\":[2,5],\"no\":\"admitted pair\",\"cause\":\"budget\",\"from\":\"01\",\
+        "{\"proved\":true,\"exact\":5,\"between\":[2,5],\"no\":\"admitted pair\",\"cause\":\"budget\",\"from\":\"01\",\
 \"to\":\"none\",\"nodes\":9,\
 \"each\":[[\"y\",\"exact\",5,\"edges\",7],[\"exact\",\"between\",2,5,\"edges\",null]],\
 \"parts\":[[\"--first\",\"0.\"]]}\n",
@@ -234,7 +234,7 @@ fn prints_a_verdict(rt: HostRuntime) -> Result<(), Fail> {
         &report,
         "accepted 5\nfirst 0.\nsecond ..\nhold =.\nflips 1\nat 0 7\nat none\n\
 refused 7 OtherCircuit\nrefused 3 LeafBound line 12\n",
-        "{\"accepted\":5,\"first\":\"0.\",\"second\":\"..\",\"hold\":\"=.\",\"flips\":1,\"at\":[0,7],\"at\":null,\
+        "{\"proved\":true,\"accepted\":5,\"first\":\"0.\",\"second\":\"..\",\"hold\":\"=.\",\"flips\":1,\"at\":[0,7],\"at\":null,\
 \"refused\":[7,\"OtherCircuit\"],\"refused\":[3,\"LeafBound\",\"line\",12]}\n",
     )
 }
@@ -247,7 +247,7 @@ fn prints_what_is_told(rt: HostRuntime) -> Result<(), Fail> {
         rt.alloc(),
         &report,
         "accepted between 2 5\naccepted none\ndefault 1 3\noutput all\noutput 4\nkeep 2 01 5 ==\n",
-        "{\"accepted\":null,\"accepted\":null,\"default\":\"1 3\",\"output\":[\"all\"],\
+        "{\"proved\":true,\"accepted\":null,\"accepted\":null,\"default\":\"1 3\",\"output\":[\"all\"],\
 \"output\":[[4]],\
 \"keep\":\"2 01 5 ==\"}\n",
     )
