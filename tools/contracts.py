@@ -1,12 +1,13 @@
 #!/usr/bin/env python3
-"""contracts.py [--check | --write]: the table of contracts in docs/CONTRACTS.md, from the sources.
+"""contracts.py [--check | --write]: the tables of docs/CONTRACTS.md, from the sources.
 contracts.py CRATE::FUNCTION ..: prints the contracts of these functions, as the sources have them.
 
-The table has a row for each crate of crates.txt: what it is (the first sentence of its module's
-comment), its main functions (MAIN), each with the names of the clauses that it ensures, and its
-laws. Without a word, or with `--check`, the exit status is 1 where the page has another table, or a
-function or a law of MAIN isn't there. `--write` puts the table into the page. Run it from any
-folder.
+The table of contracts has a row for each crate of crates.txt: what it is (the first sentence of its
+module's comment), its main functions (MAIN), each with the names of the clauses that it ensures,
+and its laws. The other has the public functions that ensure nothing, and why (WHY): a crate that
+isn't there may have none. Without a word, or with `--check`, the exit status is 1 where the page
+has other tables, a function of MAIN isn't there, or a crate has no reason. `--write` puts the
+tables into the page. Run it from any folder.
 """
 
 import functools
@@ -20,6 +21,8 @@ TOP = os.path.dirname(os.path.dirname(os.path.abspath(__file__)))
 PAGE = os.path.join(TOP, "docs", "CONTRACTS.md")
 START = "<!-- Written by tools/contracts.py table, to the next comment. -->\n"
 END = "<!-- The end of table. -->\n"
+FREE_START = "<!-- Written by tools/contracts.py free, to the next comment. -->\n"
+FREE_END = "<!-- The end of free. -->\n"
 CLAUSE = re.compile(r"^ *(requires|ensures)(?: (\w+))? \{")
 # What each crate is used for.
 MAIN = {
@@ -57,6 +60,19 @@ MAIN = {
     "td_terminal": ["new"],
     "td_question": ["question_of"],
     "td_answer": ["answer", "answer_plain"],
+}
+# Why public functions of a crate ensure nothing. Of a search none does: they are counted.
+SEARCH = "a search: its pairs are measured, its steps judged"
+WHY = {
+    "td_cdcl": SEARCH,
+    "td_climb": SEARCH,
+    "td_span_search": SEARCH,
+    "td_refute": "as these, between it and the judge",
+    "td_ternary": "room for signals, which the bound's contract speaks of",
+    "td_stop": "what another thread sees, and time",
+    "td_pool": "a book under a lock",
+    "td_hints": "a hint's sentence",
+    "td_cli": "a hint's sentence",
 }
 
 
@@ -145,6 +161,29 @@ def sources(crate, files="*.rt"):
     return by_name
 
 
+def free(crate):
+    """The names of a crate's public functions that ensure nothing."""
+    found = set()
+    for path in glob.glob(os.path.join(TOP, "crates", crate, "src", "*.rt")):
+        for contract in contracts_of(heads_and_clauses(text_of(path))):
+            if not any(word == "ensures" for word, _ in contract.clauses):
+                found.add(contract.name)
+    return sorted(found)
+
+
+def free_table(missing):
+    rows = ["| Crate | Public functions that ensure nothing | Why |", "| --- | --- | --- |"]
+    for crate in crates():
+        names = free(crate)
+        if names and crate not in WHY:
+            missing.append(f"reason why {', '.join(names)} of {crate} ensure nothing")
+        elif names:
+            shown = ", ".join(f"`{name}`" for name in names)
+            cell = str(len(names)) if WHY[crate] == SEARCH else shown
+            rows.append(f"| `{crate}` | {cell} | {WHY[crate]} |")
+    return "\n".join(rows) + "\n"
+
+
 @functools.cache
 def first_sentence(crate):
     """The first sentence of the comment of a crate's module."""
@@ -165,7 +204,7 @@ def functions(crate, missing):
     found, cells = sources(crate), []
     for name in MAIN.get(crate, []):
         if name not in found:
-            missing.append(f"{crate}::{name}")
+            missing.append(f"function {crate}::{name}")
             continue
         clauses = max((it.ensured() for it in found[name]), key=len)
         cells.append(f"`{name}`" + (f" ({', '.join(clauses)})" if clauses else ""))
@@ -182,13 +221,19 @@ def table(missing):
     return "\n".join(rows) + "\n"
 
 
+def put(page, start, end, made):
+    """The page with this text between the two comments."""
+    head, _, rest = page.partition(start)
+    _, found, tail = rest.partition(end)
+    if not found:
+        sys.exit(f"contracts.py: docs/CONTRACTS.md lacks {start}")
+    return head + start + made + end + tail
+
+
 def written(page, missing):
-    """The page with the table as the sources have it."""
-    head, _, rest = page.partition(START)
-    _, end, tail = rest.partition(END)
-    if not end:
-        sys.exit("contracts.py: docs/CONTRACTS.md lacks the comments around its table")
-    return head + START + table(missing) + END + tail
+    """The page with the tables as the sources have them."""
+    page = put(page, START, END, table(missing))
+    return put(page, FREE_START, FREE_END, free_table(missing))
 
 
 def shown(words):
@@ -209,12 +254,12 @@ def main(words):
         sys.exit(__doc__)
     missing, page = [], text_of("docs", "CONTRACTS.md")
     new = written(page, missing)
-    print(*(f"no function {it}" for it in missing), sep="\n", end="\n" if missing else "")
+    print(*(f"no {it}" for it in missing), sep="\n", end="\n" if missing else "")
     if words == ["--write"]:
         with open(PAGE, "w", encoding="utf-8") as file:
             file.write(new)
     elif new != page:
-        print("docs/CONTRACTS.md has another table: run tools/contracts.py --write")
+        print("docs/CONTRACTS.md has other tables: run tools/contracts.py --write")
     return 1 if missing or (words != ["--write"] and new != page) else 0
 
 

@@ -1,0 +1,138 @@
+-- Circuits that are asked about some of their outputs.
+use Rattle.std.proofs.Common.{◌≡◌, ◌<◌, ◌+◌, ◌∙◌, ◌&&◌, ℕ, zero, suc, Bool, true, false, List, [], ◌∷◌, ◌++◌, length, take, map, get_or, refl, sym, ap, ap₂, subst, arith, inl, inr, slice_get, Option, Some, None, true≢false}
+use Rattle.std.specs.Prelude.{nat_lt}
+use Rattle.std.specs.List.{Contains}
+use Rattle.std.proofs.lemmas.List.{length-map, map-append}
+use Rattle.td_gates.proofs.Places.{some-same, none-some, slice_get-some, slice_get-within, slice_get-Contains, take_push}
+use Rattle.td_nets.specs.Netlist.{Name, Net, Named, Netlist}
+use Rattle.td_nets.specs.WellFormed.{IsWellFormed}
+use Rattle.td_nets.specs.Outputs.{with_outputs}
+use Rattle.td_circuit.specs.Loops.{Loop, LiesOnLoop}
+use Rattle.td_circuit.specs.Numbering.{Numbered, nets, IsNumbering, CanBeAsked}
+use Rattle.td_source.specs.Kept.{Rise, AreOutputs, AreAt, AreNumbers, HasOutputsAt, HasOutputs}
+use Rattle.td_source.specs.Places.{are_rising, nets_at}
+use Rattle.td_source.proofs.Keeping.{kept_at, kept_can}
+use Rattle.td_source.proofs.OutputNets.{output_at}
+use Rattle.td_source.proofs.Rising.{none_in, at_head, in_tail, head_or_tail}
+
+-- ---- numbers that rise
+
+both_true : (this that : Bool) → (this && that) ≡ true → (this ≡ true) × (that ≡ true)
+both_true true that e = (refl, e)
+both_true false that e = absurd (true≢false (sym e))
+
+pub rising_are : (count : ℕ) (numbers : List ℕ) → are_rising count numbers ≡ true → Rise numbers × ((number : ℕ) → Contains numbers number → number < count)
+rising_are count [] e = (tt, λ number has. absurd (none_in number has))
+rising_are count (this ∷ []) e = (
+  ((λ other has. absurd (none_in other has)), tt),
+  λ number has. elim (head_or_tail this [] number has) [
+    | inl same ↦ subst (λ (n : ℕ). n < count) same (ltb-lt this count e)
+    | inr none ↦ absurd (none_in number none)
+  ],
+)
+rising_are count (this ∷ that ∷ more) e =
+    let parts = both_true (nat_lt this that) (are_rising count (that ∷ more)) e in
+    let less : this < that = ltb-lt this that parts.0 in
+    let rest = rising_are count (that ∷ more) parts.1 in
+    (
+      (
+        (λ other has. elim (head_or_tail that more other has) [
+          | inl same ↦ subst (λ (n : ℕ). this < n) same less
+          | inr later ↦ omega (arith, less, rest.0.0 other later)
+        ]),
+        rest.0,
+      ),
+      λ number has. elim (head_or_tail this (that ∷ more) number has) [
+        | inl same ↦ subst (λ (n : ℕ). n < count) same (omega (arith, less, rest.1 that (at_head that more)))
+        | inr later ↦ rest.1 number later
+      ],
+    )
+
+pub are_rising_true : (count : ℕ) (numbers : List ℕ) → Rise numbers → ((number : ℕ) → Contains numbers number → number < count) → are_rising count numbers ≡ true
+are_rising_true count [] rise within = refl
+are_rising_true count (this ∷ []) rise within = lt-ltb this count (within this (at_head this []))
+are_rising_true count (this ∷ that ∷ more) rise within =
+    rw (lt-ltb this that (rise.0 that (at_head that more)))
+    (are_rising_true count (that ∷ more) rise.1 (λ number has. within number (in_tail this (that ∷ more) number has)))
+
+-- ---- names and nets
+
+pub names_more : (netlist : Netlist) (numbers : List ℕ) (i number : ℕ) (names new : List Name) (name : Name) → slice_get numbers i ≡ Some number
+    → slice_get netlist.outputs number ≡ Some name → new ≡ names ++ name ∷ [] → AreAt netlist (take i numbers) names → AreAt netlist (take (i + 1) numbers) new
+names_more netlist numbers i number names new name at stands added are =
+    let next : i + 1 ≡ suc i = omega arith in
+    rw (next, added, take_push numbers i number at)
+    (map-append (λ (n : ℕ). slice_get netlist.outputs n) (take i numbers) (number ∷ [])
+    ∙ ap₂ (λ xs x. xs ++ x ∷ []) are stands
+    ∙ sym (map-append (λ (n : Name). Some n) names (name ∷ [])))
+
+pub nets_more : (circuit : Numbered) (numbers : List ℕ) (i number : ℕ) (before new : List ℕ) (net : ℕ) → slice_get numbers i ≡ Some number
+    → net ≡ get_or circuit.outputs number 0 → new ≡ before ++ net ∷ [] → before ≡ nets_at circuit (take i numbers) → new ≡ nets_at circuit (take (i + 1) numbers)
+nets_more circuit numbers i number before new net at is added are =
+    let next : i + 1 ≡ suc i = omega arith in
+    rw (next, take_push numbers i number at)
+    (added ∙ ap₂ (λ xs x. xs ++ x ∷ []) are is ∙ sym (map-append (λ (n : ℕ). get_or circuit.outputs n 0) (take i numbers) (number ∷ [])))
+
+-- what stands in a mapped list comes from what stands there
+map_at : {A B : Type 0} (f : A → B) (xs : List A) (i : ℕ) (y : B) → slice_get (map f xs) i ≡ Some y → (x : A) × (slice_get xs i ≡ Some x) × (f x ≡ y)
+map_at f [] i y at = absurd (none-some y at)
+map_at f (x ∷ xs) zero y at = (x, refl, some-same (f x) y at)
+map_at f (x ∷ xs) (suc i) y at = map_at f xs i y at
+
+pub at_long : (netlist : Netlist) (numbers : List ℕ) (names : List Name) → AreAt netlist numbers names → length numbers ≡ length names
+at_long netlist numbers names are =
+    sym (length-map numbers (λ (n : ℕ). slice_get netlist.outputs n)) ∙ ap length are ∙ length-map names (λ (n : Name). Some n)
+
+-- these names and nets can be the circuit's outputs
+pub can_be_asked : (circuit : Numbered) (numbers : List ℕ) (names : List Name) (chosen : List ℕ) → IsNumbering circuit → AreOutputs circuit.netlist numbers
+    → AreAt circuit.netlist numbers names → chosen ≡ nets_at circuit numbers → CanBeAsked circuit names chosen
+can_be_asked circuit numbers names chosen numbering fit are is = record {
+  outputs = kept_can circuit.netlist numbers names numbering.well_formed fit.rising are;
+  named = record {
+    count = ap length is ∙ length-map numbers (λ (n : ℕ). get_or circuit.outputs n 0) ∙ at_long circuit.netlist numbers names are
+        ∙ sym (length-map names (λ (n : Name). Named n));
+    each = λ i number net at_number at_net.
+        let from = map_at (λ (n : ℕ). get_or circuit.outputs n 0) numbers i number (subst (λ (ns : List ℕ). slice_get ns i ≡ Some number) is at_number) in
+        let named = map_at (λ (n : Name). Named n) names i net at_net in
+        let kept = kept_at circuit.netlist numbers names i named.0 are named.1 in
+        let same : kept.0 ≡ from.0 = some-same kept.0 from.0 (sym kept.1 ∙ from.1) in
+        let stands : slice_get circuit.netlist.outputs from.0 ≡ Some named.0 = subst (λ (p : ℕ). slice_get circuit.netlist.outputs p ≡ Some named.0) same kept.2 in
+        let within : from.0 < length circuit.outputs =
+        omega (arith, slice_get-some circuit.netlist.outputs from.0 named.0 stands, numbering.outputs.count, length-map circuit.netlist.outputs (λ (n : Name). Named n)) in
+        let out = output_at circuit numbering from.0 within in
+        let name : out.name ≡ named.0 = some-same out.name named.0 (sym out.at ∙ stands) in
+        subst (λ (k : ℕ). slice_get (nets circuit) k ≡ Some net) from.2 (out.net ∙ ap (λ (n : Name). Some (Named n)) name ∙ ap (λ (n : Net). Some n) named.2);
+  };
+}
+
+-- ---- netlists with these outputs
+
+names_at : (netlist : Netlist) (numbers : List ℕ) → ((number : ℕ) → Contains numbers number → number < length netlist.outputs)
+    → (names : List Name) × AreAt netlist numbers names
+names_at netlist [] within = ([], refl)
+names_at netlist (number ∷ numbers) within =
+    let here = slice_get-within netlist.outputs number (within number (at_head number numbers)) in
+    let later = names_at netlist numbers (λ other has. within other (in_tail number numbers other has)) in
+    (here.0 ∷ later.0, ap₂ (λ x xs. x ∷ xs) here.1 later.1)
+
+pub outputs_exist : (whole : Netlist) (numbers : Option (List ℕ)) → AreNumbers whole numbers → (netlist : Netlist) × HasOutputs whole numbers netlist
+outputs_exist whole None fit = (whole, refl)
+outputs_exist whole (Some numbers) fit =
+    let names = names_at whole numbers fit.within in
+    (with_outputs whole names.0, (names.0, names.1, refl))
+
+loop_with : (whole : Netlist) (names : List Name) → Loop whole → Loop (with_outputs whole names)
+loop_with whole names loop = record { first = loop.first; others = loop.others; of_netlist = loop.of_netlist; closes = loop.closes }
+
+loop_without : (whole : Netlist) (names : List Name) → Loop (with_outputs whole names) → Loop whole
+loop_without whole names loop = record { first = loop.first; others = loop.others; of_netlist = loop.of_netlist; closes = loop.closes }
+
+-- its outputs make no loop of a netlist
+pub lies_too : (whole : Netlist) (numbers : Option (List ℕ)) (netlist : Netlist) (name : Name) → HasOutputs whole numbers netlist → LiesOnLoop whole name → LiesOnLoop netlist name
+lies_too whole None netlist name has lies = subst (λ (n : Netlist). LiesOnLoop n name) (sym has) lies
+lies_too whole (Some numbers) netlist name has lies =
+    subst (λ (n : Netlist). LiesOnLoop n name) (sym has.2) (loop_with whole has.0 lies.0, lies.1, lies.2, lies.3)
+
+pub acyclic_too : (whole : Netlist) (numbers : Option (List ℕ)) (netlist : Netlist) → HasOutputs whole numbers netlist → (¬ Loop whole) → ¬ Loop netlist
+acyclic_too whole None netlist has acyclic loop = acyclic (subst (λ (n : Netlist). Loop n) has loop)
+acyclic_too whole (Some numbers) netlist has acyclic loop = acyclic (loop_without whole has.0 (subst (λ (n : Netlist). Loop n) has.2 loop))
