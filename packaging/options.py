@@ -106,7 +106,7 @@ def main(words):
         with open(PAGE, "w", encoding="utf-8") as file:
             file.write(new)
     elif new != old:
-        print("docs/MANUAL.md has other options: run tools/options.py PROGRAM --write")
+        print("docs/MANUAL.md has other options: run packaging/options.py PROGRAM --write")
         return 1
     return 0
 

@@ -19,7 +19,7 @@ here="$(cd "$(dirname "${BASH_SOURCE[0]}")/.." && pwd)"
 . "$here/build/commit.sh"
 
 usage() {
-    sed -n '2,/^set -eu/{/^# \?/s///p}' "$here/tools/install.sh"
+    sed -n '2,/^set -eu/{/^# \?/s///p}' "$here/packaging/install.sh"
 }
 fail() {
     local status=$1
@@ -51,7 +51,7 @@ completions() {
     if "$program" --help | grep -q '^  completions '; then
         "$program" completions "$1"
     else
-        python3 "$here/tools/completions.py" "$1" "$program"
+        python3 "$here/packaging/completions.py" "$1" "$program"
     fi
 }
 
@@ -68,7 +68,7 @@ make_files() {
     done
     cp "$program" "$room/bin/tdelay"
     { "$program" --version && print_commit; } > "$room/share/tdelay/version"
-    python3 "$here/tools/manual.py" "$program" > "$room/share/man/man1/tdelay.1"
+    python3 "$here/packaging/manual.py" "$program" > "$room/share/man/man1/tdelay.1"
     for name in $(bridges); do
         cp "$here/$name" "$room/share/tdelay/$name"
     done

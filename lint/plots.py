@@ -155,7 +155,7 @@ def main(words):
         except FileNotFoundError:
             same = False
         if not same:
-            print(f"{os.path.relpath(path, TOP)} is another picture: run tools/plots.py --write")
+            print(f"{os.path.relpath(path, TOP)} is another picture: run lint/plots.py --write")
             differing += 1
     return 1 if differing else 0
 

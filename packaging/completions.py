@@ -3,8 +3,8 @@
 output, made of what `PROGRAM --help` and `PROGRAM COMMAND --help` say.
 
 They complete the commands, the options of each, the values where help lists them, and file names
-where a file is asked for. `eval "$(tools/completions.py bash PROGRAM)"` serves at once; where a
-shell looks for them: tools/install.sh. A program with the command `completions` prints its own,
+where a file is asked for. `eval "$(packaging/completions.py bash PROGRAM)"` serves at once; where a
+shell looks for them: packaging/install.sh. A program with the command `completions` prints its own,
 and these offer that command as any other.
 """
 
@@ -39,7 +39,7 @@ def is_file(entry):
 
 
 BASH = """\
-# Completions of tdelay for bash, made by tools/completions.py.
+# Completions of tdelay for bash, made by packaging/completions.py.
 _tdelay() {{
     local cur=${{COMP_WORDS[COMP_CWORD]}} prev=${{COMP_WORDS[COMP_CWORD - 1]}}
     local command= options= takes= values= places= place=0 at word
@@ -121,7 +121,7 @@ def bash(whole, commands):
 
 ZSH = """\
 #compdef tdelay
-# Completions of tdelay for zsh, made by tools/completions.py.
+# Completions of tdelay for zsh, made by packaging/completions.py.
 _tdelay() {{
     local curcontext="$curcontext" state
     local -a line commands
@@ -207,7 +207,7 @@ def fish_option(entry):
 def fish(whole, commands):
     """The completions for fish."""
     lines = [
-        "# Completions of tdelay for fish, made by tools/completions.py.",
+        "# Completions of tdelay for fish, made by packaging/completions.py.",
         "complete -c tdelay -n __fish_use_subcommand -f",
     ]
     texts = {entry.name: summary(entry) for entry in whole.commands}

@@ -14,7 +14,7 @@ import sys
 
 TOP = os.path.join(os.path.dirname(os.path.abspath(__file__)), "..")
 PAGE = os.path.join(TOP, "docs", "FROM-RTL.md")
-BEGIN, END = "<!-- refusals: tools/refusals.py -->\n", "<!-- end -->\n"
+BEGIN, END = "<!-- refusals: lint/refusals.py -->\n", "<!-- end -->\n"
 SHELL = re.compile(r'refuse (\w+)\s+(?:\\\s+)?"((?:[^"\\]|\\.)*)"\s*(?:\\\s+)?"((?:[^"\\]|\\.)*)"')
 # A command in a text of the shell.
 COMMAND = re.compile(r"\$\((?:[^()]|\([^()]*\))*\)")

@@ -19,9 +19,9 @@ from dataclasses import dataclass, field
 
 TOP = os.path.dirname(os.path.dirname(os.path.abspath(__file__)))
 PAGE = os.path.join(TOP, "docs", "CONTRACTS.md")
-START = "<!-- Written by tools/contracts.py table, to the next comment. -->\n"
+START = "<!-- Written by lint/contracts.py table, to the next comment. -->\n"
 END = "<!-- The end of table. -->\n"
-FREE_START = "<!-- Written by tools/contracts.py free, to the next comment. -->\n"
+FREE_START = "<!-- Written by lint/contracts.py free, to the next comment. -->\n"
 FREE_END = "<!-- The end of free. -->\n"
 CLAUSE = re.compile(r"^ *(requires|ensures)(?: (\w+))? \{")
 # What each crate is used for.
@@ -259,7 +259,7 @@ def main(words):
         with open(PAGE, "w", encoding="utf-8") as file:
             file.write(new)
     elif new != page:
-        print("docs/CONTRACTS.md has other tables: run tools/contracts.py --write")
+        print("docs/CONTRACTS.md has other tables: run lint/contracts.py --write")
     return 1 if missing or (words != ["--write"] and new != page) else 0
 
 

@@ -2,7 +2,7 @@
 """audit.py --write | --check: the table of wrong bodies in docs/AUDIT.md, made from the edits.
 
 An edit is a file that puts a wrong body in: those of crates/CRATE/must-fail are tried by `rt ci`,
-those of checks/wrong_bodies/CRATE by `checks/wrong_bodies.py`. The table has the names of the first
+those of lint/wrong_bodies/CRATE by `lint/wrong_bodies.py`. The table has the names of the first
 and the numbers of the others. `--write` puts it and the counts into the page, `--check` ends with
 status 1 where the page has others.
 """
@@ -14,10 +14,10 @@ import sys
 
 TOP = os.path.dirname(os.path.dirname(os.path.abspath(__file__)))
 PAGE = os.path.join(TOP, "docs", "AUDIT.md")
-START = "<!-- Written by tools/audit.py edits, to the next comment. -->\n"
+START = "<!-- Written by lint/audit.py edits, to the next comment. -->\n"
 END = "<!-- The end of edits. -->\n"
 # Patterns of edits, each with how far above an edit its crate stands.
-KINDS = {"crates/*/must-fail/*.edit": 2, "checks/wrong_bodies/*/*.edit": 1}
+KINDS = {"crates/*/must-fail/*.edit": 2, "lint/wrong_bodies/*/*.edit": 1}
 COUNTS = [r"(`rt ci` tries )\d+( wrong bodies)", r"([Tt]he other )\d+( are tried)"]
 
 
@@ -61,7 +61,7 @@ def main(words):
         with open(PAGE, "w", encoding="utf-8") as file:
             file.write(new)
     elif new != old:
-        print("docs/AUDIT.md has another table: run tools/audit.py --write")
+        print("docs/AUDIT.md has another table: run lint/audit.py --write")
         return 1
     return 0
 

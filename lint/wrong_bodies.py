@@ -1,6 +1,6 @@
 #!/usr/bin/env python3
 """wrong_bodies.py [--record FILE] [CRATE ..]: whether the prover refuses the wrong bodies below
-checks/wrong_bodies/CRATE, each an edit as those in crates/CRATE/must-fail. Without a name: all.
+lint/wrong_bodies/CRATE, each an edit as those in crates/CRATE/must-fail. Without a name: all.
 
 `rt ci` tries the edits in must-fail/ each time, and proves a crate once more for them. These here
 are tried on demand: in a copy of the repository, where `rt must-fail` begins with what `rt check`
@@ -28,7 +28,7 @@ TOP = os.path.dirname(os.path.dirname(os.path.abspath(__file__)))
 sys.path.insert(0, os.path.join(TOP, "build"))
 from crates import lower_first, uses_of  # noqa: E402
 
-EDITS = os.path.join(TOP, "checks", "wrong_bodies")
+EDITS = os.path.join(TOP, "lint", "wrong_bodies")
 PARTS = ("src", "specs", "proofs")
 SAID = re.compile(r"rt: must-fail (\w+)/(\S+): (.*)")
 
@@ -157,7 +157,7 @@ def main():
     uses, have = uses_of(TOP), sorted(os.listdir(EDITS))
     strange = [it for it in asked.crates if it not in have]
     if strange:
-        sys.exit(f"wrong_bodies.py: no folder checks/wrong_bodies/{strange[0]}")
+        sys.exit(f"wrong_bodies.py: no folder lint/wrong_bodies/{strange[0]}")
     record, refused, failed = read_record(asked.record), 0, 0
     os.makedirs(os.path.dirname(os.path.abspath(asked.record)), exist_ok=True)
     for crate in asked.crates or have:
