@@ -12,3 +12,4 @@ pub mod Keeping
 pub mod Writable
 pub mod Gathered
 pub mod Reporting
+pub mod EachOne

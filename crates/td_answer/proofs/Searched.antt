@@ -50,7 +50,6 @@ use Rattle.td_answer.specs.Additions.{AddsLines}
 use Rattle.td_answer.specs.Certificates.{terms_in, tells_terms, certificate_in, CanBeTold}
 use Rattle.td_answer.specs.Certified.{AreTermsOf, IsCertified}
 use Rattle.td_answer.specs.Searches.{IsRefusedSearch}
-use Rattle.td_answer.specs.Tables.{found_of, IsTrueFound}
 use Rattle.td_answer.specs.Sentences.{HasFigure, IsTrueWorst}
 
 -- ---- the pair of an answer
@@ -196,11 +195,6 @@ module _ (text : List ℕ) (reading : Reading) (asked_by : Search) (circuit : Nu
       (shown_by budget read found outcome.report adds.0 same is_output is written can adds.1))
 
   -- the figures of an answer are true
-  pub true_found : (budget : ℕ) (found : Answer) → IsSoundAnswer problem budget found → IsTrueFound (setting circuit) admit (found_of found)
-  true_found budget (answer.Exact time pair tree) is = record { pair = pair; admitted = is.reached.0; reached = is.reached.1; greatest = is.greatest }
-  true_found budget (answer.Between low high pair nodes short) is =
-      record { pair = pair; has = record { admitted = is.reached.0; delays = is.reached.1 }; greatest = is.greatest; ordered = is.ordered }
-
   -- ---- no answer
 
   pub refused : (is_timed : Bool) (reason : WorstFault) → is_timed ≡ is_some asked_by.effort.seconds → IsWorstFault is_timed problem reason

@@ -1,7 +1,7 @@
 //! The outputs of a circuit, one after another.
 
 ghost use Rattle.std.specs.Prelude.{◌≡◌, ◌<◌, length, map, slice_get, Some, IfOk, OnOk};
-ghost use Rattle.td_nets.specs.Netlist.{Name};
+ghost use Rattle.td_nets.specs.Netlist.{Name as Named};
 ghost use Rattle.td_nets.specs.Views.{name_of};
 ghost use Rattle.td_circuit.specs.Numbering.{setting};
 ghost use Rattle.td_source.specs.Each.{alone};
@@ -65,7 +65,7 @@ impl EachOutput {
     /// Asks the circuit about the output at this place alone. The error is out of memory.
     pub fn ask(&mut self, alloc: Global, place: usize) -> Result<(), AllocError>
         requires { place < length self.old.whole.netlist.outputs }
-        ensures asked { OnOk result ((name : Name) → slice_get self.old.whole.netlist.outputs place ≡ Some name → setting self.new.asked ≡ alone (setting self.old.whole) name) }
+        ensures asked { OnOk result ((name : Named) → slice_get self.old.whole.netlist.outputs place ≡ Some name → setting self.new.asked ≡ alone (setting self.old.whole) name) }
         ensures whole { self.new.whole ≡ self.old.whole }
     {
         let mut names = Vec::new(alloc);
