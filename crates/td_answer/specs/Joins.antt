@@ -16,7 +16,7 @@ use Rattle.td_certificate.specs.Accepts.{Accepts, AsksNone, IsOfSize, setting_of
 use Rattle.td_certificate.specs.Faults.{IsFault}
 use Rattle.td_certificate.specs.Spelling.{Spells, HasSpelling}
 use Rattle.td_checker.specs.declared.verdict.Verdict.TheVariants.{Accepted}
-use Rattle.td_checker.specs.Checks.{HaveVerdict, IsCheckFault}
+use Rattle.td_checker.specs.Checks.{told_all, HaveVerdict, IsCheckFault}
 use Rattle.td_join.specs.declared.fault.JoinFault.{JoinFault}
 use Rattle.td_join.specs.declared.fault.JoinFault.TheVariants as fault
 use Rattle.td_join.specs.Joining.{IsJoined, hull}
@@ -48,7 +48,7 @@ whole_pins (Some pins) parts = pins
 pub record TellsPart (text : List ℕ) (reading : Reading) (netlist : Netlist) (check : Bool) (spelled : List ℕ) (part : Certificate) : Type 0 where
   pub spells : Spells part spelled
   pub sized : IsOfSize netlist part
-  pub accepted : check ≡ true → HaveVerdict text reading spelled Accepted
+  pub accepted : check ≡ true → HaveVerdict text reading told_all spelled Accepted
 
 -- why a text gives no part, another verdict only where parts are checked; the refusal names its
 -- file
@@ -57,7 +57,7 @@ TellsNoPart text reading netlist check name spelled refusal.OutOfMemory = Unit {
 TellsNoPart text reading netlist check name spelled (refusal.BadPart reported found) =
     (found.kind ≢ certificate_kind.OutOfMemory) × (reported.now ≡ name) × IsFault found.kind found.line spelled
 TellsNoPart text reading netlist check name spelled (refusal.Unaccepted reported verdict) =
-    (check ≡ true) × (reported.now ≡ name) × (verdict ≢ Accepted) × HaveVerdict text reading spelled verdict
+    (check ≡ true) × (reported.now ≡ name) × (verdict ≢ Accepted) × HaveVerdict text reading told_all spelled verdict
 TellsNoPart text reading netlist check name spelled (refusal.OtherCircuit reported) =
     (reported.now ≡ name) × (part : Certificate) × Spells part spelled × ¬ IsOfSize netlist part
 TellsNoPart text reading netlist check name spelled (refusal.Check found) = (check ≡ true) × IsCheckFault text reading spelled found

@@ -28,9 +28,9 @@ use Rattle.td_answer.specs.declared.texts.Texts.{Texts}
 -- ---- checks
 
 -- the text of the certificate is there, and this is true of it
-abbrev pub IsCheckedTrue : List ℕ → Reading → Option (Vec ℕ) → Outcome → Type 0
-IsCheckedTrue text reading None outcome = ⊥
-IsCheckedTrue text reading (Some spelled) outcome = IsTrueCheck text reading spelled.items outcome
+abbrev pub IsCheckedTrue : List ℕ → Reading → Check → Option (Vec ℕ) → Outcome → Type 0
+IsCheckedTrue text reading asked None outcome = ⊥
+IsCheckedTrue text reading asked (Some spelled) outcome = IsTrueCheck text reading asked.told spelled.items outcome
 
 -- or it isn't there, and the refusal names its file
 abbrev pub IsRefusedChecked : List ℕ → Reading → Check → Option (Vec ℕ) → Refusal → Type 0
@@ -63,7 +63,7 @@ SaysTrue (command.Bound asked) text reading spelled outcome = IsTrueBound text r
 SaysTrue (command.Worst asked) text reading spelled outcome = IsSearchedTrue asked.each text reading asked outcome
 SaysTrue (command.Parts asked) text reading spelled outcome = IsTrueParts text reading asked outcome
 SaysTrue (command.Join asked) text reading spelled outcome = IsTrueJoin text reading asked (texts_of spelled) outcome
-SaysTrue (command.Check asked) text reading spelled outcome = IsCheckedTrue text reading (slice_get spelled 0) outcome
+SaysTrue (command.Check asked) text reading spelled outcome = IsCheckedTrue text reading asked (slice_get spelled 0) outcome
 SaysTrue command.Info text reading spelled outcome = IsTrueInfo text reading outcome
 
 -- the certificate

@@ -110,7 +110,7 @@ fn checked<'n, 'w>(
     asked: &Check<'w>,
     certificates: &[Vec<u8>],
 ) -> Result<Outcome, Refusal<'n, 'w>>
-    ensures says { IfOk result (IsCheckedTrue text.now reading.now (slice_get certificates.now 0)) }
+    ensures says { IfOk result (IsCheckedTrue text.now reading.now asked.now (slice_get certificates.now 0)) }
     ensures certified { IfOk result (λ outcome. outcome.certificate ≡ Nothing) }
     ensures written { IfOk result CanBeWritten }
     ensures refusal { IfErr result (IsRefusedChecked text.now reading.now asked.now (slice_get certificates.now 0)) }
@@ -118,5 +118,5 @@ fn checked<'n, 'w>(
     let Some(certificate) = certificates.first() else {
         return Err(Refusal::Unread(asked.certificate));
     };
-    verdict_on(alloc, text, reading, certificate)
+    verdict_on(alloc, text, reading, asked.told, certificate)
 }

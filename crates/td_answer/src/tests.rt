@@ -14,7 +14,7 @@ use td_gates::Delay;
 use td_inputs::Given;
 use td_lines::{Text, print_text};
 use td_pool::Unwatched;
-use td_reading::Reading;
+use td_reading::{Reading, Told};
 use td_request::{
     Bound, Check, Command, Count, Effort, Files, Form, Inputs, Join, Parts, Path, Question,
     Request, Search, Shown, Sim, Strategy,
@@ -73,12 +73,9 @@ fn pinned(first: Option<&'static str>) -> Inputs<'static> {
     }
 }
 
-fn reading() -> Option<Reading<'static>> {
+fn reading(alloc: Global) -> Option<Reading<'static>> {
     let default = Delay::new(1, 1)?;
-    Some(Reading {
-        default,
-        output: None,
-    })
+    Some(Reading::whole(alloc, default))
 }
 
 /// The search from a first vector, within so many nodes.
@@ -110,7 +107,7 @@ fn answered<R: Threads + Wait + Clock + Sync>(
 ) -> Result<Outcome, Refusal<'static, 'static>>
     ensures { IfOk result CanBeWritten }
 {
-    let Some(reading) = reading() else {
+    let Some(reading) = reading(alloc) else {
         return Err(Refusal::TooLong);
     };
     let request = Request {
@@ -172,6 +169,11 @@ fn push_certificate<R: Threads + Wait + Clock + Sync>(
 fn checked() -> Command<'static> {
     Command::Check(Check {
         certificate: "cert",
+        told: Told {
+            rise: false,
+            fall: false,
+            outputs: false,
+        },
     })
 }
 

@@ -164,7 +164,7 @@ impl<'r, 'w, 't> Case<'r, 'w, 't> {
         match fault {
             SourceFault::OutOfMemory => memory(text),
             SourceFault::Netlist(fault) => netlist_fault(self.alloc, text, self.netlist, *fault),
-            SourceFault::NoOutput => self.output(text, self.request.reading.output.unwrap_or("")),
+            SourceFault::NoOutput => self.unnamed(text),
             SourceFault::Loop(name) => on_loop(text, self.netlist.file, name),
         }
     }
@@ -173,7 +173,7 @@ impl<'r, 'w, 't> Case<'r, 'w, 't> {
         match fault {
             CheckFault::OutOfMemory => memory(text),
             CheckFault::Netlist(fault) => netlist_fault(self.alloc, text, self.netlist, *fault),
-            CheckFault::NoOutput => self.output(text, self.request.reading.output.unwrap_or("")),
+            CheckFault::NoOutput => self.unnamed(text),
             CheckFault::Loop(name) => on_loop(text, self.netlist.file, name),
             CheckFault::Certificate(fault) => {
                 certificate_fault(text, self.certificate(), *fault)
@@ -197,9 +197,20 @@ impl<'r, 'w, 't> Case<'r, 'w, 't> {
         }
     }
 
+    /// Appends which name that is asked about no output has, the first one.
+    fn unnamed(&self, text: &mut Text) -> Result<(), AllocError> {
+        for name in self.request.reading.outputs.names() {
+            let alone = Reading::of_one(self.alloc, self.request.reading.default, name)?;
+            if let Err(SourceFault::NoOutput) = circuit_of(self.alloc, self.netlist.bytes, &alone) {
+                return self.output(text, name);
+            }
+        }
+        Ok(())
+    }
+
     /// Appends that no output has this name, and which outputs there are.
     fn output(&self, text: &mut Text, name: &str) -> Result<(), AllocError> {
-        let whole = Reading::whole(self.request.reading.default);
+        let whole = Reading::whole(self.alloc, self.request.reading.default);
         match circuit_of(self.alloc, self.netlist.bytes, &whole) {
             Ok(circuit) => no_output(text, &circuit, name),
             Err(SourceFault::Loop(net)) => on_loop(text, self.netlist.file, &net),

@@ -25,7 +25,7 @@ use Rattle.td_request.specs.declared.request.Parts.{Parts}
 use Rattle.td_request.specs.declared.request.Join.{Join}
 use Rattle.td_request.specs.declared.request.Check.{Check}
 use Rattle.td_request.specs.declared.request.Request.{Request}
-use Rattle.td_command.specs.CommandLine.{HasCount, HasWord, HasWords, HasFlag, HasNumber, HasReading, HasWholeReading, IsGiven, kinds_of, program}
+use Rattle.td_command.specs.CommandLine.{HasCount, HasWord, HasWords, HasFlag, HasNumber, HasReading, HasWholeReading, IsGiven, IsTold, kinds_of, program}
 use Rattle.td_command.specs.declared.words.Words.{Words}
 use Rattle.td_command.specs.declared.requests.Common.{Common}
 
@@ -99,6 +99,10 @@ pub record SaysJoin (rows : List Row) (named : List Taken) (said : Join) : Type 
   pub check : HasFlag (codes "check") rows said.check
   pub inputs : SaysInputs rows named said.inputs
 
+pub record SaysCheck (rows : List Row) (said : Check) : Type 0 where
+  pub certificate : IsGiven (codes "CERT") rows said.certificate
+  pub told : IsTold rows said.told
+
 -- the command of this name says this
 abbrev pub SaysCommand : Text → List Row → List Taken → Command → Type 0
 SaysCommand name rows named (command.Sim said) = (name ≡ codes "sim") × SaysSim rows named said
@@ -107,7 +111,7 @@ SaysCommand name rows named (command.Bound said) = (name ≡ codes "bound") × S
 SaysCommand name rows named (command.Worst said) = (name ≡ codes "worst") × SaysWorst rows named said
 SaysCommand name rows named (command.Parts said) = (name ≡ codes "parts") × SaysParts rows named said
 SaysCommand name rows named (command.Join said) = (name ≡ codes "join") × SaysJoin rows named said
-SaysCommand name rows named (command.Check said) = (name ≡ codes "check") × IsGiven (codes "CERT") rows said.certificate
+SaysCommand name rows named (command.Check said) = (name ≡ codes "check") × SaysCheck rows said
 SaysCommand name rows named command.Info = name ≡ codes "info"
 
 -- no report where that is asked for, else JSON where that is
@@ -124,7 +128,7 @@ SaysForm rows said =
 abbrev pub is_about_all : Text → Bool
 is_about_all name = bytes_eq name (codes "sim") || (bytes_eq name (codes "path") || bytes_eq name (codes "info"))
 
--- the netlist's text is read so: of one output only where the command asks about one
+-- the netlist's text is read so: of some outputs only where the command asks about those
 abbrev pub SaysReading : Text → List Row → Reading → Type 0
 SaysReading name rows reading = (is_about_all name ≡ true → HasWholeReading rows reading) × (is_about_all name ≡ false → HasReading rows reading)
 

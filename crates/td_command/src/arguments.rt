@@ -3,10 +3,10 @@
 ghost use Rattle.std.specs.Prelude.{◌≡◌, ◌++◌, [], ◌∷◌, codes, false, IfOk, OnOk};
 ghost use Rattle.clap.specs.Words.{app_of, new_app, rule_of};
 ghost use Rattle.td_command.specs.CommandLine.{needed, needed_words, needed_number, option, named_option, number_option, count_option, name_option, flag};
-ghost use Rattle.td_command.specs.CommandLine.{with_letter, workers_letter, quiet_letter, common_rules, pair_rules, cube_rules, admitted_rules, strategy_rule, certificate_rule, search_rules};
+ghost use Rattle.td_command.specs.CommandLine.{with_letter, workers_letter, quiet_letter, common_rules, pair_rules, cube_rules, admitted_rules, strategy_rule, certificate_rule, outputs_rule, search_rules};
 ghost use Rattle.td_command.specs.Telling.{reported, TellsRule, TellsRules};
 
-use crate::help::{FREE_HELP, LATEST_HELP, WHOLE_HELP};
+use crate::help::{FREE_HELP, LATEST_HELP, OUTPUT_HELP, WHOLE_HELP};
 use clap::builder::ValueParser;
 use clap::{Arg, ArgAction, Command};
 use std::alloc::{AllocError, Global};
@@ -280,11 +280,19 @@ time of the input of this name, as often as needed",
         )
     }
 
-    /// Which output is asked about, as an option.
+    /// Which output's path is asked for, as an option.
     pub(crate) fn output(&mut self, help: &'a str) -> Result<(), AllocError>
         ensures { OnOk result (TellsRule (option (codes "output")) self.old self.new) }
     {
         self.option("output", "NAME", help)
+    }
+
+    /// Which outputs are asked about, as an option that may be given any number of times.
+    pub(crate) fn asked_outputs(&mut self) -> Result<(), AllocError>
+        ensures { OnOk result (TellsRule outputs_rule self.old self.new) }
+    {
+        let output = option(self.alloc, "output", "NAME", OUTPUT_HELP);
+        self.add(output.action(ArgAction::Append))
     }
 
     /// Whether it is asked which output changes last, or has the bound, as a flag.

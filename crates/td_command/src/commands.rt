@@ -8,7 +8,7 @@ ghost use Rattle.td_command.specs.Telling.{reported, offering, OffersCommand, Of
 use crate::arguments::Arguments;
 use crate::help::{
     BOUND_HELP, BOUND_OUTPUT_HELP, CHAIN_HELP, CHECK_HELP, FREE_HELP, HELP, INFO_HELP, JOIN_HELP,
-    LATEST_HELP, OUTPUT_HELP, PARTS_HELP, PATH_HELP, SIM_HELP, VERSION, WHOLE_HELP, WORST_HELP,
+    LATEST_HELP, PARTS_HELP, PATH_HELP, SIM_HELP, VERSION, WHOLE_HELP, WORST_HELP,
 };
 use clap::Command;
 use std::alloc::{AllocError, Global};
@@ -101,7 +101,7 @@ impl<'a> Commands<'a> {
         arguments.moments()?;
         arguments.edges()?;
         arguments.outputs(BOUND_OUTPUT_HELP)?;
-        arguments.output(OUTPUT_HELP)?;
+        arguments.asked_outputs()?;
         arguments.common()?;
         self.add(
             "bound",
@@ -118,7 +118,7 @@ impl<'a> Commands<'a> {
         arguments.searched(strategies)?;
         arguments.vcd()?;
         arguments.reported()?;
-        arguments.output(OUTPUT_HELP)?;
+        arguments.asked_outputs()?;
         arguments.each()?;
         arguments.common()?;
         self.add(
@@ -138,7 +138,7 @@ impl<'a> Commands<'a> {
         arguments.admitted()?;
         arguments.moments()?;
         arguments.strategy(strategies)?;
-        arguments.output(OUTPUT_HELP)?;
+        arguments.asked_outputs()?;
         arguments.common()?;
         self.add(
             "parts",
@@ -156,7 +156,7 @@ answers each",
         arguments.file()?;
         arguments.joined()?;
         arguments.cube(WHOLE_HELP)?;
-        arguments.output(OUTPUT_HELP)?;
+        arguments.asked_outputs()?;
         arguments.common()?;
         self.add(
             "join",
@@ -172,7 +172,7 @@ answers each",
         let mut arguments = Arguments::new(self.alloc);
         arguments.file()?;
         arguments.certificate()?;
-        arguments.output(OUTPUT_HELP)?;
+        arguments.asked_outputs()?;
         arguments.common()?;
         self.add(
             "check",

@@ -106,9 +106,9 @@ abbrev pub delays_text : ℕ → ℕ → List ℕ
 delays_text rise fall = decimal rise ++ codes " " ++ decimal fall
 
 -- the number of an output, or that all are meant
-abbrev pub output_value : Option ℕ → Json
+abbrev pub output_value : Option (List ℕ) → Json
 output_value None = named (codes "all")
-output_value (Some count) = array (item (array (item (number (decimal count)) no_items)) no_items)
+output_value (Some numbers) = array (item (at_value numbers) no_items)
 
 abbrev pub key_of : Line → List ℕ
 key_of (line.Module name) = codes "module"
@@ -139,7 +139,7 @@ key_of (line.Accepted time) = codes "accepted"
 key_of (line.AcceptedBetween time high) = codes "accepted"
 key_of line.AcceptedNone = codes "accepted"
 key_of (line.Default rise fall) = codes "default"
-key_of (line.OutputNumber count) = codes "output"
+key_of (line.OutputNumbers numbers) = codes "output"
 key_of (line.First pins) = codes "first"
 key_of (line.Second pins) = codes "second"
 key_of (line.Hold mask) = codes "hold"
@@ -177,7 +177,7 @@ value_of (line.Accepted time) = number (decimal time)
 value_of (line.AcceptedBetween time high) = null
 value_of line.AcceptedNone = null
 value_of (line.Default rise fall) = string (delays_text rise fall)
-value_of (line.OutputNumber count) = output_value count
+value_of (line.OutputNumbers numbers) = output_value numbers
 value_of (line.First pins) = string pins
 value_of (line.Second pins) = string pins
 value_of (line.Hold mask) = string mask

@@ -152,8 +152,8 @@ pub enum Line {
         rise: u64,
         fall: u64,
     },
-    /// The number of the output that it is about, or that it is about all.
-    OutputNumber(Option<u64>),
+    /// The numbers of the outputs that it is about, or that it is about all.
+    OutputNumbers(Option<Moments>),
     /// What is pinned in the first vector, of a certificate.
     First(Label),
     /// And in the second.

@@ -124,7 +124,7 @@ fn member(alloc: Global, writer: &mut Writer, line: &Line) -> Result<(), AllocEr
         Line::AcceptedBetween { .. } => bound(writer, "accepted", None),
         Line::AcceptedNone => bound(writer, "accepted", None),
         Line::Default { rise, fall } => claims::default(alloc, writer, *rise, *fall),
-        Line::OutputNumber(number) => claims::output_number(writer, *number),
+        Line::OutputNumbers(numbers) => claims::output_numbers(writer, numbers),
         Line::First(pins) => word(writer, "first", pins.text()),
         Line::Second(pins) => word(writer, "second", pins.text()),
         Line::Hold(mask) => word(writer, "hold", mask.text()),
@@ -443,7 +443,7 @@ impl Valued for Row {
 }
 
 /// The moments, or null where there are no inputs.
-fn moments_value(writer: &mut Writer, moments: &[u64]) -> Result<(), AllocError>
+pub(crate) fn moments_value(writer: &mut Writer, moments: &[u64]) -> Result<(), AllocError>
     ensures { OnOk result (Adds writer.old writer.new (json_tokens (at_value moments.now))) }
 {
     if moments.is_empty() {

@@ -159,8 +159,10 @@ fn told(alloc: Global) -> Result<Report, AllocError> {
     report.add(Line::AcceptedBetween { time: 2, high: 5 })?;
     report.add(Line::AcceptedNone)?;
     report.add(Line::Default { rise: 1, fall: 3 })?;
-    report.add(Line::OutputNumber(None))?;
-    report.add(Line::OutputNumber(Some(4)))?;
+    report.add(Line::OutputNumbers(None))?;
+    let mut numbers = Vec::new(alloc);
+    numbers.push(4u64)?;
+    report.add(Line::OutputNumbers(Some(Moments::new(numbers))))?;
     report.add(Line::Keep(label(alloc, "2 01 5 ==")?))?;
     Ok(report)
 }

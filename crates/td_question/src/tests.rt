@@ -33,10 +33,7 @@ fn asked<'a>(
     let Some(default) = Delay::new(1, 1) else {
         rt.abort();
     };
-    let reading = Reading {
-        default,
-        output: None,
-    };
+    let reading = Reading::whole(alloc, default);
     let question = Question {
         inputs: Inputs { given, named },
         flips: Some(1),
@@ -131,14 +128,11 @@ fn refuses(rt: HostRuntime) -> Result<(), Fail> {
     Ok(())
 }
 
-fn reading(rt: &impl Abort) -> Reading<'static> {
+fn reading(rt: &impl Abort, alloc: Global) -> Reading<'static> {
     let Some(default) = Delay::new(1, 1) else {
         rt.abort();
     };
-    Reading {
-        default,
-        output: None,
-    }
+    Reading::whole(alloc, default)
 }
 
 /// The pins of a cube, by place and by name together.
@@ -156,7 +150,7 @@ fn pins_a_cube(rt: HostRuntime) -> Result<(), Fail> {
         given,
         named: &named,
     };
-    match cube_of(rt.alloc(), TEXT, &reading(&rt), &inputs) {
+    match cube_of(rt.alloc(), TEXT, &reading(&rt, rt.alloc()), &inputs) {
         Ok(asked) => {
             assert!(rt; asked.cube.len() == 6);
             assert!(rt; asked.cube.trit(0) == Trit::Zero && asked.cube.trit(1) == Trit::Free);
@@ -174,14 +168,28 @@ fn spells_a_pair(rt: HostRuntime) -> Result<(), Fail> {
         given: nothing(),
         named: &[],
     };
-    match pair_of(rt.alloc(), TEXT, &reading(&rt), &inputs, "01x", "111") {
+    match pair_of(
+        rt.alloc(),
+        TEXT,
+        &reading(&rt, rt.alloc()),
+        &inputs,
+        "01x",
+        "111",
+    ) {
         Ok(asked) => {
             assert!(rt; asked.first.as_slice() == [Level::Zero, Level::One, Level::X].as_slice());
             assert!(rt; asked.second.as_slice() == [Level::One, Level::One, Level::One].as_slice());
         }
         Err(_) => assert!(rt; false),
     }
-    match pair_of(rt.alloc(), TEXT, &reading(&rt), &inputs, "01x", "11") {
+    match pair_of(
+        rt.alloc(),
+        TEXT,
+        &reading(&rt, rt.alloc()),
+        &inputs,
+        "01x",
+        "11",
+    ) {
         Err(QuestionFault::BadVector(VectorWord::To)) => {}
         _ => assert!(rt; false),
     }

@@ -9,20 +9,3 @@ pub struct Told {
     pub fall: bool,
     pub outputs: bool,
 }
-
-impl Told {
-    ghost use Rattle.std.specs.Prelude.{◌≡◌, true};
-
-    /// All of it.
-    pub fn all() -> Told
-        ensures rise { result.rise ≡ true }
-        ensures fall { result.fall ≡ true }
-        ensures outputs { result.outputs ≡ true }
-    {
-        Told {
-            rise: true,
-            fall: true,
-            outputs: true,
-        }
-    }
-}

@@ -3,7 +3,7 @@
 use crate::effort::{Count, Effort};
 use crate::files::Files;
 use crate::question::{Inputs, Question};
-use td_reading::Reading;
+use td_reading::{Reading, Told};
 
 /// In which form a report goes out.
 #[derive(Clone, Copy, Debug, PartialEq, Eq, Drop)]
@@ -109,6 +109,8 @@ pub struct Join<'a> {
 pub struct Check<'a> {
     /// The certificate's file.
     pub certificate: &'a str,
+    /// What is said of how the netlist is read.
+    pub told: Told,
 }
 
 /// What is to be done.

@@ -2,11 +2,13 @@
 use Rattle.std.proofs.Common.{◌≡◌, ◌<◌, ◌+◌, ◌∙◌, ◌&&◌, ℕ, zero, suc, Bool, true, false, List, [], ◌∷◌, ◌++◌, length, take, map, get_or, refl, sym, ap, ap₂, subst, arith, inl, inr, slice_get, Option, Some, None, true≢false}
 use Rattle.std.specs.Prelude.{nat_lt}
 use Rattle.std.specs.List.{Contains}
+use Rattle.std.proofs.lemmas.Bool.{lt-ltb, ltb-true}
 use Rattle.std.proofs.lemmas.List.{length-map, map-append}
 use Rattle.td_gates.proofs.Places.{some-same, none-some, slice_get-some, slice_get-within, slice_get-Contains, take_push}
 use Rattle.td_nets.specs.Netlist.{Name, Net, Named, Netlist}
 use Rattle.td_nets.specs.WellFormed.{IsWellFormed}
 use Rattle.td_nets.specs.Outputs.{with_outputs}
+use Rattle.td_nets.proofs.Outputs.{formed_with}
 use Rattle.td_circuit.specs.Loops.{Loop, LiesOnLoop}
 use Rattle.td_circuit.specs.Numbering.{Numbered, nets, IsNumbering, CanBeAsked}
 use Rattle.td_source.specs.Kept.{Rise, AreOutputs, AreAt, AreNumbers, HasOutputsAt, HasOutputs}
@@ -26,15 +28,14 @@ rising_are count [] e = (tt, λ number has. absurd (none_in number has))
 rising_are count (this ∷ []) e = (
   ((λ other has. absurd (none_in other has)), tt),
   λ number has. elim (head_or_tail this [] number has) [
-    | inl same ↦ subst (λ (n : ℕ). n < count) same (ltb-lt this count e)
+    | inl same ↦ subst (λ (n : ℕ). n < count) same (ltb-true this count e)
     | inr none ↦ absurd (none_in number none)
   ],
 )
 rising_are count (this ∷ that ∷ more) e =
     let parts = both_true (nat_lt this that) (are_rising count (that ∷ more)) e in
-    let less : this < that = ltb-lt this that parts.0 in
-    let rest = rising_are count (that ∷ more) parts.1 in
-    (
+    let less : this < that = ltb-true this that parts.0 in
+    let rest = rising_are count (that ∷ more) parts.1 in (
       (
         (λ other has. elim (head_or_tail that more other has) [
           | inl same ↦ subst (λ (n : ℕ). this < n) same less
@@ -136,3 +137,15 @@ lies_too whole (Some numbers) netlist name has lies =
 pub acyclic_too : (whole : Netlist) (numbers : Option (List ℕ)) (netlist : Netlist) → HasOutputs whole numbers netlist → (¬ Loop whole) → ¬ Loop netlist
 acyclic_too whole None netlist has acyclic loop = acyclic (subst (λ (n : Netlist). Loop n) has loop)
 acyclic_too whole (Some numbers) netlist has acyclic loop = acyclic (loop_without whole has.0 (subst (λ (n : Netlist). Loop n) has.2 loop))
+
+pub acyclic_whole : (whole : Netlist) (numbers : Option (List ℕ)) (netlist : Netlist) → HasOutputs whole numbers netlist → (¬ Loop netlist) → ¬ Loop whole
+acyclic_whole whole None netlist has acyclic loop = acyclic (subst (λ (n : Netlist). Loop n) (sym has) loop)
+acyclic_whole whole (Some numbers) netlist has acyclic loop = acyclic (subst (λ (n : Netlist). Loop n) (sym has.2) (loop_with whole has.0 loop))
+
+-- and it is as well-formed
+pub formed_too : (whole : Netlist) (numbers : Option (List ℕ)) (netlist : Netlist) → IsWellFormed whole → AreNumbers whole numbers → HasOutputs whole numbers netlist
+    → IsWellFormed netlist
+formed_too whole None netlist formed fit has = subst (λ (n : Netlist). IsWellFormed n) (sym has) formed
+formed_too whole (Some numbers) netlist formed fit has =
+    subst (λ (n : Netlist). IsWellFormed n) (sym has.2)
+    (formed_with whole has.0 formed (kept_can whole numbers has.0 formed fit.rising has.1))

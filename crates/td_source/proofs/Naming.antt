@@ -66,7 +66,7 @@ one_asked whole (word ∷ words) one other p q =
     same_kept whole q.0 one other
     (subst (λ (places : List ℕ). HasOutputsAt whole places one) (same_places whole (word ∷ words) p.0 q.0 p.1 q.1) p.2) q.2
 
-same_outputs : (whole : Netlist) (words : List (List ℕ)) (one other : Option (List ℕ)) → AreOutputsIn whole words one → AreOutputsIn whole words other → one ≡ other
+pub same_outputs : (whole : Netlist) (words : List (List ℕ)) (one other : Option (List ℕ)) → AreOutputsIn whole words one → AreOutputsIn whole words other → one ≡ other
 same_outputs whole [] one other p q = p ∙ sym q
 same_outputs whole (word ∷ words) one other p q =
     p.1 ∙ ap (λ (places : List ℕ). Some places) (same_places whole (word ∷ words) p.0 q.0 p.2 q.2) ∙ sym q.1
