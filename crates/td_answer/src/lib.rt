@@ -28,8 +28,6 @@ mod runs;
 mod sentence;
 mod sim;
 mod status;
-#[cfg(test)]
-mod tests;
 mod texts;
 mod unjoined;
 mod words;

@@ -3,12 +3,12 @@
 ghost use Rattle.std.specs.Prelude.{IfOk};
 ghost use Rattle.td_answer.specs.Writing.{CanBeWritten};
 
-use crate::{Outcome, Refusal, Status, Texts, answer};
 use std::alloc::Global;
 use std::sync::Wait;
 use std::test::*;
 use std::thread::Threads;
 use std::time::Clock;
+use td_answer::{Outcome, Refusal, Status, Texts, answer};
 use td_certificate::write;
 use td_gates::Delay;
 use td_inputs::Given;

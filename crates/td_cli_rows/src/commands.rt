@@ -1,7 +1,7 @@
 //! The program on files in memory.
 
-use crate::{run, run_plain};
 use std::test::*;
+use td_cli::{run, run_plain};
 use td_files::MemoryFiles;
 use td_text::MemorySink;
 
@@ -50,7 +50,8 @@ fn prints_in_its_form(rt: HostRuntime) -> Result<(), Fail> {
         b"unit 1 ns\ndefaulted 0\nlast y 3\ntime 3\n".as_slice()
     );
     let json = run_of(&rt, &["tdelay", "sim", "inverter.v", "0", "1", "--json"])?;
-    let wanted = b"{\"proved\":true,\"unit\":\"1 ns\",\"defaulted\":0,\"last\":[[\"y\",3]],\"time\":3}\n";
+    let wanted =
+        b"{\"proved\":true,\"unit\":\"1 ns\",\"defaulted\":0,\"last\":[[\"y\",3]],\"time\":3}\n";
     assert_eq!(rt; json.out.bytes(), wanted.as_slice());
     let quiet = run_of(&rt, &["tdelay", "sim", "inverter.v", "0", "1", "-q"])?;
     assert_eq!(rt; quiet.code, 0);

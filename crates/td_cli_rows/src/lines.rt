@@ -1,13 +1,13 @@
 //! Reports in both forms: a line of each kind.
 
-use crate::{
-    Cause, Change, Driver, Figure, Found, Label, Last, Line, Moments, Part, Place, Report, Row,
-    Span, Text, Vector, print_json, print_text,
-};
 use std::alloc::{AllocError, Global};
 use std::process::Abort;
 use std::test::*;
 use td_gates::{Kind, Level};
+use td_lines::{
+    Cause, Change, Driver, Figure, Found, Label, Last, Line, Moments, Part, Place, Report, Row,
+    Span, Text, Vector, print_json, print_text,
+};
 use td_nets::{Scale, Unit};
 
 fn label(alloc: Global, text: &str) -> Result<Label, AllocError> {

@@ -1,0 +1,9 @@
+//! Requests about small netlists, as values and as words. There are tests here, and nothing else.
+#![tactic(auto)]
+
+#[cfg(test)]
+mod answers;
+#[cfg(test)]
+mod commands;
+#[cfg(test)]
+mod lines;
