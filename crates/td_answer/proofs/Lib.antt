@@ -1,3 +1,4 @@
+pub mod Naming
 pub mod OutputNets
 pub mod Adding
 pub mod Ways
