@@ -7,3 +7,5 @@ mod answers;
 mod commands;
 #[cfg(test)]
 mod lines;
+#[cfg(test)]
+mod questions;

@@ -11,8 +11,6 @@ mod names;
 mod pair;
 mod pins;
 mod placed;
-#[cfg(test)]
-mod tests;
 pub mod timing;
 pub mod vector;
 

@@ -1,13 +1,13 @@
 //! Questions about a small netlist.
 
-use crate::vector::VectorWord;
-use crate::{Asked, QuestionFault, cube_of, pair_of, question_of};
 use std::alloc::Global;
 use std::process::Abort;
 use std::test::*;
 use td_domain::Trit;
 use td_gates::{Delay, Level};
 use td_inputs::{Given, Taken, Topic, WordFault};
+use td_question::vector::VectorWord;
+use td_question::{Asked, QuestionFault, cube_of, pair_of, question_of};
 use td_reading::Reading;
 use td_request::{Inputs, Question};
 
