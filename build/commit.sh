@@ -1,4 +1,4 @@
-# Prints a line with the commit of the checkout at `here`: sourced by `tdelay` and tools/install.sh.
+# Prints a line with the commit of the checkout at `here`: sourced by `tdelay` and packaging/install.sh.
 # A program can't know it, since it is a checksum of the sources. Nothing is printed where git isn't
 # there, or `here` is no checkout of its own.
 print_commit() {

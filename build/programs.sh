@@ -1,4 +1,4 @@
-# Finds built programs of the checkout at `here`: sourced by `tdelay` and tools/install.sh, after
+# Finds built programs of the checkout at `here`: sourced by `tdelay` and packaging/install.sh, after
 # place.sh.
 
 # Whether a program is there and none of these parts of the crates was changed after it.

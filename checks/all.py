@@ -7,8 +7,7 @@ PROGRAM is that of `rt ci` where it is left out. Each check tries as many cases 
 has, so that all of them take less than 10 minutes on four processors; with `--minutes N` it tries N
 tenths of them. A check whose cases stand in a list tries them all. `--only` names the checks that
 are run. What takes longer than it is worth each time is run where there are minutes for it, or
-where it is named (LATER); `wrong_bodies.py` tries proofs, `parameters.py` reads the crates'
-sources, and `figures.py` and `hall.py` measure.
+where it is named (LATER); `figures.py` and `hall.py` measure.
 
 `--self-test` runs every check on programs that can't be right: `/bin/true`, `/bin/false` and one
 that hangs. Each has to fail within three minutes, and to say why: a minute on a quiet machine.
@@ -38,7 +37,7 @@ from lib.check import SKIPPED
 # The minutes of the quick part.
 QUICK = 10
 # Scripts of this folder that are no checks of a program.
-NO_CHECKS = {"all", "wrong_bodies", "parameters", "figures", "hall"}
+NO_CHECKS = {"all", "figures", "hall"}
 # Checks that are run where there are this many minutes.
 LATER = {"first_command": 20}
 # What takes longest begins first.

@@ -10,7 +10,7 @@ The tables:
   and OTHER the one after it.
 - `workers`: searches by 1, 2 and 4 workers, by the clock.
 - `parts`: one search at once, by 4 workers, and in parts by examples/many_machines.sh.
-- `growth`: circuits by `auto`, in families, by their gates; tools/plots.py draws this table.
+- `growth`: circuits by `auto`, in families, by their gates; lint/plots.py draws this table.
 - `strategies`: each netlist by each strategy that the program has.
 - `collection`: how many netlists of a folder are exact, by the strategy `auto` or `--strategies`.
 - `refutations`: certificates by `refute`: their bytes, and what `check` takes.

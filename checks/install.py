@@ -1,5 +1,5 @@
 #!/usr/bin/env python3
-"""Looks that tools/install.sh installs the program, its man page and its completions, and removes
+"""Looks that packaging/install.sh installs the program, its man page and its completions, and removes
 them again, in a PREFIX of its own.
 
 The installed program answers. The man page has each command and each option of `--help`, and the
@@ -20,7 +20,7 @@ from lib import check, places, running, shells
 
 import help_text
 
-INSTALL = os.path.join(places.TOOLS, "install.sh")
+INSTALL = os.path.join(places.PACKAGING, "install.sh")
 SOURCES = os.path.join(places.TOP, "build", "sources.py")
 COMMANDS = ["sim", "path", "bound", "worst", "parts", "join", "check", "info"]
 WANTED = "unit 1 ns\ndefaulted 6\nexact 3\nfrom 00000\nto 11111\nnodes 1\n"

@@ -9,14 +9,14 @@ that the page names. A block without a language is what the last command or scri
 without the head. A text in backquotes that is a line of a report or a message is a line that some command of
 the pages prints, or one of OTHERS, of which they tell in words.
 
-Besides, the table of contracts in docs/CONTRACTS.md is that of tools/contracts.py, the tables of
-options in docs/MANUAL.md are those of tools/options.py, the plots those of tools/plots.py, the
-numbers of docs/model those of tools/model.py, and the picture of the crates is that of
-tools/picture.py. As many wrong bodies are there as the pages say. Each name of code and each path
+Besides, the table of contracts in docs/CONTRACTS.md is that of lint/contracts.py, the tables of
+options in docs/MANUAL.md are those of packaging/options.py, the plots those of lint/plots.py, the
+numbers of docs/model those of lint/model.py, and the picture of the crates is that of
+lint/picture.py. As many wrong bodies are there as the pages say. Each name of code and each path
 in backquotes is in the repository, but for those of NO_NAMES. Each relative link of a page leads to
 a file that is there, and to a heading of it. Lines have at most 100 columns, but for tables and
 blocks, in README.md also there, which has at most 150 lines and 900 words; and no page has one of
-the words of tools/words.py. The numbers of README.md are those of the places in NUMBERS. A page
+the words of lint/words.py. The numbers of README.md are those of the places in NUMBERS. A page
 that isn't read here has no command, or is one of ELSEWHERE, whose check reads it. Each refusal of
 docs/NETLIST.md is what its example gives, and each certificate of docs/CERTIFICATE.md is accepted.
 Each command, block, text, name, link, page, number and refusal is a case.
@@ -133,7 +133,7 @@ LINE = re.compile("|".join(LINES))
 
 
 def renewals(tested):
-    """Cases: tools/contracts.py finds what is planted in its table, and a function that is gone."""
+    """Cases: lint/contracts.py finds what is planted in its table, and a function that is gone."""
     page = places.text_of(CONTRACTS)
     if listing.written(page, []) != page:
         # That the page differs is a case of `tools`.
@@ -146,13 +146,13 @@ def renewals(tested):
     listing.MAIN["td_path"].append("chains_of")
     listing.written(page, missing)
     listing.MAIN["td_path"].pop()
-    tested.expect("a function that isn't there", ["td_path::chains_of"], missing)
+    tested.expect("a function that isn't there", ["function td_path::chains_of"], missing)
 
 
 def tools(tested):
     """Cases: contracts, numbers of the model, pictures, refusals of the bridges."""
     for tool in ("contracts.py", "model.py", "picture.py", "plots.py", "refusals.py"):
-        words = [sys.executable, os.path.join(places.TOOLS, tool), "--check"]
+        words = [sys.executable, os.path.join(places.LINT, tool), "--check"]
         done = running.run(words, places.TOP, seconds=LONGEST)
         tested.expect(f"{tool}: {done.out}{done.err}", 0, done.status)
 
@@ -161,7 +161,7 @@ def counted(tested):
     """Cases: how many wrong bodies there are, where a page says so."""
     counts = {
         r"`rt ci` tries (\d+) wrong bodies": "crates/*/must-fail/*.edit",
-        r"[Oo]ther (\d+) are tried by `checks/wrong_bodies.py`": "checks/wrong_bodies/*/*.edit",
+        r"[Oo]ther (\d+) are tried by `lint/wrong_bodies.py`": "lint/wrong_bodies/*/*.edit",
     }
     pages = sorted(glob.glob(os.path.join(places.TOP, "docs", "*.md")))
     texts = [" ".join(places.text_of(page).split()) for page in ["README.md", *pages]]
@@ -173,7 +173,7 @@ def counted(tested):
 
 def applied(tested):
     """Cases: each wrong body that is tried on demand can be put in, as the sources are."""
-    for path in sorted(glob.glob(os.path.join(places.TOP, "checks/wrong_bodies/*/*.edit"))):
+    for path in sorted(glob.glob(os.path.join(places.TOP, "lint/wrong_bodies/*/*.edit"))):
         crate, name = path.split(os.sep)[-2:]
         first, *lines = places.text_of(path).splitlines()
         code = places.text_of("crates", crate, first.removeprefix("file: "))
@@ -285,8 +285,8 @@ def widths(tested):
 
 
 def words(tested):
-    """A case: no page has a word of tools/words.py."""
-    script = os.path.join(places.TOOLS, "words.py")
+    """A case: no page has a word of lint/words.py."""
+    script = os.path.join(places.LINT, "words.py")
     done = running.run([sys.executable, script, "--check", "--list"], places.TOP)
     tested.expect(f"the words of pages: {done.out}{done.err}", 0, done.status)
     for text, status in (
@@ -328,7 +328,7 @@ def all_are_read(tested):
 
 def options(tested):
     """Cases: the manual's commands are those of `--help`, and its tables of options those that
-    tools/options.py makes of it.
+    packaging/options.py makes of it.
     """
     manual = places.text_of("docs/MANUAL.md")
     try:

@@ -182,7 +182,7 @@ class Designs:
         page = text_of("docs", "FROM-RTL.md")
         folder = os.path.join(self.tested.folder, "page")
         os.mkdir(folder)
-        for name in ("bridges", "examples", "tools"):
+        for name in ("bridges", "examples", "lint", "packaging", "tools"):
             os.symlink(os.path.join(TOP, name), os.path.join(folder, name))
         os.symlink(self.tested.program, os.path.join(folder, "tdelay"))
         write(folder, "pipe.v", PIPELINE.replace("module t ", "module pipe "))

@@ -7,10 +7,12 @@ TOP = os.path.dirname(os.path.dirname(os.path.dirname(os.path.abspath(__file__))
 CHECKS = os.path.join(TOP, "checks")
 EXAMPLES = os.path.join(TOP, "examples")
 TOOLS = os.path.join(TOP, "tools")
+LINT = os.path.join(TOP, "lint")
+PACKAGING = os.path.join(TOP, "packaging")
 PROGRAM = os.path.join(TOP, "crates", "tdelay", "out", "tdelay")
 
 # So that a check can say `import second_opinion`.
-sys.path.append(TOOLS)
+sys.path.extend([TOOLS, LINT, PACKAGING])
 
 
 def example(name):

@@ -1,5 +1,6 @@
 """How a report of the program is read, and what `--json` makes of it."""
 
+import json
 import re
 from collections import namedtuple
 
@@ -105,3 +106,15 @@ def as_json(report):
         else:
             found[key] = value_in(key, text)
     return list(found.items())
+
+
+def lines_of_json(text):
+    """The pairs of a JSON report on one line but for the first, which says whether the program is
+    proved. None where the text is no such report."""
+    try:
+        pairs = json.loads(text, object_pairs_hook=list)
+    except ValueError:
+        return None
+    is_line = text.count("\n") == 1 and text.endswith("\n")
+    is_report = isinstance(pairs, list) and pairs[:1] in ([("proved", True)], [("proved", False)])
+    return pairs[1:] if is_line and is_report else None

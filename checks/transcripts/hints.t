@@ -23,6 +23,18 @@ What `--hints` says behind the line of a refusal, on standard error. Without it 
     help: give the two outputs two names: there are no wired nets
   [1]
 
+The environment may ask for it, too, as a log of a batch system wants it.
+
+  $ TDELAY_HINTS=1 tdelay sim two.v 0 1
+  tdelay: netlist fault 11 TwoDrivers at line 5
+  two.v:5: a second gate output drives net y; the first is at line 4
+      buf #1 h(y,a);
+    help: give the two outputs two names: there are no wired nets
+  [1]
+  $ TDELAY_HINTS=0 tdelay sim two.v 0 1
+  tdelay: netlist fault 11 TwoDrivers at line 5
+  [1]
+
 It is an option of each command, and stands behind its name.
 
   $ tdelay --hints sim two.v 0 1 2> said; head -1 said

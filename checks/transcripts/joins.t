@@ -188,7 +188,7 @@ words or none. The words of a narrower question ask for that alone, and the repo
   to 00
   nodes 9
   $ tdelay join two.v part-1 part-2 part-3 --no-check --json
-  {"unit":"1 ns","defaulted":0,"unchecked":2,"from":"11","to":"00","nodes":9}
+  {"proved":true,"unit":"1 ns","defaulted":0,"unchecked":2,"from":"11","to":"00","nodes":9}
   $ sed 's/^time .*/time 1/' part-2 > wrong; tdelay join two.v part-1 wrong part-3
   tdelay: wrong: refused 2 PairTime
   [4]
@@ -272,7 +272,7 @@ Of a certificate of version 4 what isn't plain.
   accepted 2
   flips 1
   $ tdelay join two.v low high --flips 1 --json
-  {"unit":"1 ns","defaulted":0,"exact":2,"from":"01","to":"11","nodes":3,"flips":1}
+  {"proved":true,"unit":"1 ns","defaulted":0,"exact":2,"from":"01","to":"11","nodes":3,"flips":1}
 
 The output and the default delays, of which certificates of versions 1 to 3 say nothing.
 

@@ -18,7 +18,7 @@ use Rattle.td_answer.specs.Paths.{IsTruePath, IsRefusedPath}
 use Rattle.td_answer.specs.Searches.{IsRefusedSearch}
 use Rattle.td_answer.specs.Sentences.{IsTrueWorst}
 use Rattle.td_answer.specs.Simulations.{IsTrueSim, IsRefusedSim}
-use Rattle.td_answer.specs.Tables.{IsTrueTable, IsRefusedTable}
+use Rattle.td_answer.specs.Tables.{IsTrueTable}
 use Rattle.td_answer.specs.Verdicts.{IsTrueCheck, IsRefusedCheck}
 use Rattle.td_answer.specs.declared.outcome.Outcome.{Outcome}
 use Rattle.td_answer.specs.declared.refusal.Refusal.{Refusal}
@@ -47,10 +47,6 @@ IsSearchedTrue true text reading asked outcome = IsTrueTable text reading asked 
 abbrev pub IsCertifiedSearch : Bool → List ℕ → Reading → Search → Outcome → Type 0
 IsCertifiedSearch false text reading asked outcome = IsCertified text reading asked.question outcome.report outcome.certificate outcome.status
 IsCertifiedSearch true text reading asked outcome = outcome.certificate ≡ None
-
-abbrev pub IsRefusedSearched : Bool → List ℕ → Reading → Search → Refusal → Type 0
-IsRefusedSearched false text reading asked reason = IsRefusedSearch text reading asked reason
-IsRefusedSearched true text reading asked reason = IsRefusedTable text reading asked reason
 
 -- ---- requests
 
@@ -81,7 +77,7 @@ abbrev pub IsRefusedBy : Command → List ℕ → Reading → List (Vec ℕ) →
 IsRefusedBy (command.Sim asked) text reading spelled reason = IsRefusedSim text reading asked reason
 IsRefusedBy (command.Path asked) text reading spelled reason = IsRefusedPath text reading asked reason
 IsRefusedBy (command.Bound asked) text reading spelled reason = IsRefusedBound text reading asked reason
-IsRefusedBy (command.Worst asked) text reading spelled reason = IsRefusedSearched asked.each text reading asked reason
+IsRefusedBy (command.Worst asked) text reading spelled reason = IsRefusedSearch text reading asked reason
 IsRefusedBy (command.Parts asked) text reading spelled reason = IsRefusedParts text reading asked reason
 IsRefusedBy (command.Join asked) text reading spelled reason = IsRefusedJoin text reading asked (texts_of spelled) reason
 IsRefusedBy (command.Check asked) text reading spelled reason = IsRefusedChecked text reading asked (slice_get spelled 0) reason

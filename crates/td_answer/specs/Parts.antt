@@ -1,5 +1,6 @@
 -- What is true of the outcome of `parts`.
 use Rattle.std.specs.Prelude.{◌≡◌, ◌<◌, ◌≤◌, ◌==◌, ℕ, List, [], ◌∷◌, ◌++◌, if◌then◌else◌, All, map, codes, decimal, length, Option, Some, None}
+use Rattle.std.specs.Borrow.{Bor}
 use Rattle.std.specs.List.{flat_map}
 use Rattle.td_reading.specs.declared.reading.Reading.{Reading}
 use Rattle.td_circuit.specs.Settings.{Setting}
@@ -47,6 +48,10 @@ question_words words flips = given_words (codes "--hold") words.hold ++ flips_wo
 -- the option of each output that is asked about
 abbrev pub outputs_words : List (List ℕ) → List (List ℕ)
 outputs_words names = flat_map (λ name. codes "--output" ∷ name ∷ []) names
+
+-- Internal: the option of one output.
+abbrev pub output_words : Bor (List ℕ) → List (List ℕ)
+output_words name = codes "--output" ∷ name.now ∷ []
 
 -- how the netlist's text is read
 abbrev pub reading_words : Reading → List (List ℕ)

@@ -30,8 +30,6 @@ mod runs;
 mod sentence;
 mod sim;
 mod status;
-#[cfg(test)]
-mod tests;
 mod texts;
 mod unjoined;
 mod words;

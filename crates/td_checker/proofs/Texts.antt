@@ -305,3 +305,24 @@ accepted_read netlist_text reading text netlist c reads spells have =
         subst (λ (o : Option (List ℕ)). HasOutputs has.whole o netlist) named (subst (λ (n : Netlist). HasOutputs n asked.0 netlist) whole asked.2) in
         (accepted_for said has.whole c (outputs_for has.outputs c.question.terms) netlist
         (subst (λ (o : Option (List ℕ)). HasOutputs has.whole o netlist) (sym listed) there) has.is).1
+
+-- the netlist that an accepted certificate asks about, which has no loop
+pub asked_by : (netlist_text : List ℕ) (reading : Reading) (told : Told) (text : List ℕ) → (have : HaveVerdict netlist_text reading told text verdict.Accepted)
+    → (netlist : Netlist) × AsksAbout netlist_text reading have.certificate netlist × (¬ Loop netlist)
+asked_by netlist_text reading told text have = go (outputs_for have.has.outputs have.certificate.question.terms) refl have.has.is
+  where
+    go : (numbers : Option (List ℕ)) → outputs_for have.has.outputs have.certificate.question.terms ≡ numbers
+        → IsVerdictFor (said_by told reading.default have.has.outputs) have.has.whole have.certificate numbers verdict.Accepted
+        → (netlist : Netlist) × AsksAbout netlist_text reading have.certificate netlist × (¬ Loop netlist)
+    go numbers same (inl is) = (
+      is.1.0,
+      record {
+        whole = have.has.whole;
+        means = have.has.means;
+        outputs = have.has.outputs;
+        named = have.has.asked;
+        has = subst (λ (o : Option (List ℕ)). HasOutputs have.has.whole o is.1.0) (sym same) is.1.1;
+      },
+      acyclic_too have.has.whole numbers is.1.0 is.1.1 have.has.acyclic,
+    )
+    go numbers same (inr is) = absurd (let no : verdict.Accepted ≡ verdict.OtherCircuit = is.1 in cc)

@@ -1,10 +1,11 @@
 //! The verdict on a certificate's text.
 
-ghost use Rattle.std.specs.Prelude.{◌≡◌, ◌≤◌, ℕ, List, IfOk, IfErr};
+ghost use Rattle.std.specs.Prelude.{◌≡◌, ◌≤◌, ◌↔◌, ℕ, List, IfOk, IfErr, IsTrue};
 ghost use Rattle.td_certificate.specs.Accepts.{lines_in};
 ghost use Rattle.td_certificate.specs.Faults.{IsWithinLimit};
 ghost use Rattle.td_certificate.specs.Spelling.{HasSpelling, Spells};
 ghost use Rattle.td_checker.specs.declared.verdict.Verdict.{Verdict as Reported};
+ghost use Rattle.td_checker.specs.declared.verdict.CheckFault.TheVariants as memory;
 ghost use Rattle.td_checker.specs.Checks.{told_all, default_for, with_default, HasVerdict, HaveVerdict, IsWholeFault, IsCheckFault, IsCertificateFault, IsReportedAs, TellsTruth, TellsTruthOf};
 ghost use Rattle.td_checker.specs.Verdicts.{line_total};
 
@@ -67,6 +68,19 @@ fn judged<'a>(
     Ok(verdict_of_whole(alloc, whole.circuit, said, certificate)?)
 }
 
+/// Whether a fault says that memory ran out.
+fn is_memory(fault: &CheckFault<'_>) -> bool
+    ensures { IsTrue result ↔ (fault.now ≡ memory.OutOfMemory) }
+{
+    match fault {
+        CheckFault::OutOfMemory => true,
+        CheckFault::Netlist(_) => false,
+        CheckFault::NoOutput => false,
+        CheckFault::Loop(_) => false,
+        CheckFault::Certificate(_) => false,
+    }
+}
+
 /// What is told of a certificate's text that spells none: first the fault of the netlist's, if there
 /// is one.
 fn unread<'a>(
@@ -77,6 +91,9 @@ fn unread<'a>(
 ) -> CheckFault<'a>
     ensures { (text : List ℕ) → IsCertificateFault text fault → IsCheckFault netlist.now reading.now text result }
 {
+    if is_memory(&fault) {
+        return fault;
+    }
     match whole_of(alloc, netlist, reading.default, &reading.outputs) {
         Ok(_whole) => fault,
         Err(source) => CheckFault::from(source),

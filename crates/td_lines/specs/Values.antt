@@ -1,7 +1,7 @@
 -- The JSON of a report: an object with a member for each line.
-use Rattle.std.specs.Prelude.{◌≡◌, ℕ, List, [], ◌∷◌, ◌++◌, codes, decimal, Option, Some, None}
+use Rattle.std.specs.Prelude.{◌≡◌, ℕ, true, List, [], ◌∷◌, ◌++◌, codes, decimal, Option, Some, None}
 use Rattle.std.specs.List.{flat_map}
-use Rattle.json.specs.Json.{Json, null, number, string, array, object, Items, no_items, item, Members, no_members, member}
+use Rattle.json.specs.Json.{Json, null, boolean, number, string, array, object, Items, no_items, item, Members, no_members, member}
 use Rattle.json.specs.Token.{Token}
 use Rattle.json.specs.Print.{print}
 use Rattle.json.specs.Token as token
@@ -201,6 +201,6 @@ abbrev pub members_of : List Line → Members
 members_of [] = no_members
 members_of (printed ∷ lines) = member (key_of printed) (value_of printed) (members_of lines)
 
--- on one line
+-- whether the program is proved, and then the lines, on one line
 abbrev pub report_json : List Line → List ℕ
-report_json report = print (json_tokens (object (members_of report))) ++ newline
+report_json report = print (json_tokens (object (member (codes "proved") (boolean true) (members_of report)))) ++ newline

@@ -62,12 +62,18 @@ fn lists<V: Valued>(writer: &mut Writer, key: &str, items: &[V]) -> Result<(), A
     list(writer, items)
 }
 
-/// The JSON of a report, a text of one line.
+/// Whether the program is proved: `build/unproved.py` compiles one that says that it isn't.
+const IS_PROVED: bool = true;
+
+/// The JSON of a report, a text of one line: whether the program is proved, and then a member for
+/// each of the report's lines.
 pub fn print_json(alloc: Global, report: &[Line]) -> Result<Vec<u8>, AllocError>
     ensures { IfOk result (λ text. text.items ≡ report_json report.now) }
 {
     let mut writer = Writer::new(Vec::new(alloc));
     writer.begin_object()?;
+    writer.key("proved")?;
+    writer.boolean(IS_PROVED)?;
     object(alloc, &mut writer, report)?;
     let mut text = writer.into_inner();
     text.push(b'\n')?;

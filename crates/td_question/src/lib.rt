@@ -10,8 +10,6 @@ mod fault;
 mod names;
 mod pair;
 mod placed;
-#[cfg(test)]
-mod tests;
 pub mod timing;
 pub mod vector;
 

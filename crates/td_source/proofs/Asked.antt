@@ -1,11 +1,13 @@
 -- Circuits that are asked about some of their outputs.
 use Rattle.std.proofs.Common.{◌≡◌, ◌<◌, ◌+◌, ◌∙◌, ◌&&◌, ℕ, zero, suc, Bool, true, false, List, [], ◌∷◌, ◌++◌, length, take, map, get_or, refl, sym, ap, ap₂, subst, arith, inl, inr, slice_get, Option, Some, None, true≢false}
-use Rattle.std.specs.Prelude.{nat_lt}
+use Rattle.std.specs.Prelude.{◌↔◌, IsTrue, nat_lt}
 use Rattle.std.specs.List.{Contains}
 use Rattle.std.proofs.lemmas.Bool.{lt-ltb, ltb-true}
 use Rattle.std.proofs.lemmas.List.{length-map, map-append}
-use Rattle.td_gates.proofs.Places.{some-same, none-some, slice_get-some, slice_get-within, slice_get-Contains, take_push}
+use Rattle.td_gates.proofs.Places.{some-same, none-some, slice_get-some, slice_get-within, slice_get-Contains, slice_get-get, get-slice_get, take_push}
+use Rattle.td_nets.specs.declared.name.Name as code_name
 use Rattle.td_nets.specs.Netlist.{Name, Net, Named, Netlist}
+use Rattle.td_nets.specs.Views.{name_of}
 use Rattle.td_nets.specs.WellFormed.{IsWellFormed}
 use Rattle.td_nets.specs.Outputs.{with_outputs}
 use Rattle.td_nets.proofs.Outputs.{formed_with}
@@ -14,7 +16,7 @@ use Rattle.td_circuit.specs.Numbering.{Numbered, nets, IsNumbering, CanBeAsked}
 use Rattle.td_source.specs.Kept.{Rise, AreOutputs, AreAt, AreNumbers, HasOutputsAt, HasOutputs}
 use Rattle.td_source.specs.Places.{are_rising, nets_at}
 use Rattle.td_source.proofs.Keeping.{kept_at, kept_can}
-use Rattle.td_source.proofs.OutputNets.{output_at}
+use Rattle.td_source.proofs.OutputNets.{output_at, output_named, output_count}
 use Rattle.td_source.proofs.Rising.{none_in, at_head, in_tail, head_or_tail}
 
 -- ---- numbers that rise
@@ -56,7 +58,67 @@ are_rising_true count (this ∷ that ∷ more) rise within =
     rw (lt-ltb this that (rise.0 that (at_head that more)))
     (are_rising_true count (that ∷ more) rise.1 (λ number has. within number (in_tail this (that ∷ more) number has)))
 
+pub outputs_by : (netlist : Netlist) (numbers : List ℕ) (count : ℕ) (result : Bool) → result ≡ are_rising count numbers → count ≡ length netlist.outputs
+    → IsTrue result ↔ AreOutputs netlist numbers
+outputs_by netlist numbers count true e same = (
+  (λ _. let are = rising_are count numbers (sym e) in
+      record { rising = are.0; within = λ number has. subst (λ (n : ℕ). number < n) same (are.1 number has) }),
+  λ _. tt,
+)
+outputs_by netlist numbers count false e same = (
+  (λ no. absurd no),
+  λ are. absurd (true≢false
+      (sym (are_rising_true count numbers are.rising (λ number has. subst (λ (n : ℕ). number < n) (sym same) (are.within number has))) ∙ sym e)),
+)
+
 -- ---- names and nets
+
+none_default : (xs : List ℕ) (i : ℕ) → slice_get xs i ≡ None → get_or xs i 0 ≡ 0
+none_default [] i e = refl
+none_default (x ∷ xs) zero e = absurd cc
+none_default (x ∷ xs) (suc i) e = none_default xs i e
+
+pub read_some : (xs : List ℕ) (i x : ℕ) → slice_get xs i ≡ Some x → x ≡ get_or xs i 0
+read_some xs i x e = sym (slice_get-get xs i x 0 e)
+
+pub read_none : (xs : List ℕ) (i : ℕ) → slice_get xs i ≡ None → 0 ≡ get_or xs i 0
+read_none xs i e = sym (none_default xs i e)
+
+-- the output with the number at a place of a list
+pub record ChosenAt (circuit : Numbered) (numbers : List ℕ) (i : ℕ) (net : ℕ) : Type 0 where
+  pub at : slice_get numbers i ≡ Some (get_or numbers i 0)
+  pub is : net ≡ get_or circuit.outputs (get_or numbers i 0) 0
+  pub within : get_or numbers i 0 < length circuit.outputs
+  pub no_constant : 1 < net
+  pub below : net < length (nets circuit)
+
+pub chosen_at : (circuit : Numbered) → IsNumbering circuit → (numbers : List ℕ) (i : ℕ) (outputs : List ℕ) (net : ℕ) → AreOutputs circuit.netlist numbers
+    → i < length numbers → outputs ≡ circuit.outputs → net ≡ get_or outputs (get_or numbers i 0) 0 → ChosenAt circuit numbers i net
+chosen_at circuit numbering numbers i outputs net fit less same read =
+    let at : slice_get numbers i ≡ Some (get_or numbers i 0) = get-slice_get numbers i 0 (get_or numbers i 0) less refl in
+    let within : get_or numbers i 0 < length circuit.outputs =
+    omega (arith, fit.within (get_or numbers i 0) (slice_get-Contains numbers i (get_or numbers i 0) at), output_count circuit numbering) in
+    let is : net ≡ get_or circuit.outputs (get_or numbers i 0) 0 = read ∙ ap (λ (xs : List ℕ). get_or xs (get_or numbers i 0) 0) same in
+    let out = output_at circuit numbering (get_or numbers i 0) within in
+    record {
+      at = at;
+      is = is;
+      within = within;
+      no_constant = omega (arith, is, out.no_constant);
+      below = omega (arith, is, out.within);
+    }
+
+-- one more name
+pub name_next : (circuit : Numbered) → IsNumbering circuit → (numbers : List ℕ) (i net : ℕ) → ChosenAt circuit numbers i net → (names new : List code_name.Name)
+    → (name : code_name.Name) (found : Name) → slice_get (nets circuit) net ≡ Some (Named found) → name_of name ≡ found → new ≡ names ++ name ∷ []
+    → AreAt circuit.netlist (take i numbers) (map name_of names) → AreAt circuit.netlist (take (i + 1) numbers) (map name_of new)
+name_next circuit numbering numbers i net chosen names new name found at_net is added are =
+    let number = get_or numbers i 0 in
+    let net_is : slice_get (nets circuit) (get_or circuit.outputs (get_or numbers i 0) 0) ≡ Some (Named found) =
+    subst (λ (n : ℕ). slice_get (nets circuit) n ≡ Some (Named found)) chosen.is at_net in
+    let stands = output_named circuit numbering (get_or numbers i 0) chosen.within found net_is ∙ ap (λ (n : Name). Some n) (sym is) in
+    names_more circuit.netlist numbers i (get_or numbers i 0) (map name_of names) (map name_of new) (name_of name) chosen.at stands
+    (ap (map name_of) added ∙ map-append name_of names (name ∷ [])) are
 
 pub names_more : (netlist : Netlist) (numbers : List ℕ) (i number : ℕ) (names new : List Name) (name : Name) → slice_get numbers i ≡ Some number
     → slice_get netlist.outputs number ≡ Some name → new ≡ names ++ name ∷ [] → AreAt netlist (take i numbers) names → AreAt netlist (take (i + 1) numbers) new
@@ -122,10 +184,10 @@ outputs_exist whole (Some numbers) fit =
     let names = names_at whole numbers fit.within in
     (with_outputs whole names.0, (names.0, names.1, refl))
 
-loop_with : (whole : Netlist) (names : List Name) → Loop whole → Loop (with_outputs whole names)
+abbrev loop_with : (whole : Netlist) (names : List Name) → Loop whole → Loop (with_outputs whole names)
 loop_with whole names loop = record { first = loop.first; others = loop.others; of_netlist = loop.of_netlist; closes = loop.closes }
 
-loop_without : (whole : Netlist) (names : List Name) → Loop (with_outputs whole names) → Loop whole
+abbrev loop_without : (whole : Netlist) (names : List Name) → Loop (with_outputs whole names) → Loop whole
 loop_without whole names loop = record { first = loop.first; others = loop.others; of_netlist = loop.of_netlist; closes = loop.closes }
 
 -- its outputs make no loop of a netlist

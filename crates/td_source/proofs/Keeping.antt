@@ -1,17 +1,18 @@
 -- The outputs that are kept, as they are found, and why they can be a netlist's.
-use Rattle.std.proofs.Common.{◌≡◌, ◌<◌, ◌≤◌, ◌+◌, ◌∙◌, ℕ, zero, suc, List, [], ◌∷◌, ◌++◌, length, take, map, refl, sym, ap, ap₂, subst, arith, inl, inr, slice_get, Option, Some, None}
-use Rattle.std.proofs.lemmas.Bool.{cases_eq}
-use Rattle.std.specs.List.{Contains}
+use Rattle.std.proofs.Common.{◌≡◌, ◌<◌, ◌≤◌, ◌+◌, ◌∙◌, ◌==◌, ◌||◌, ℕ, zero, suc, Bool, true, false, List, [], ◌∷◌, ◌++◌, length, take, map, get_or, refl, sym, ap, ap₂, subst, arith, inl, inr, slice_get, Option, Some, None, true≢false}
+use Rattle.std.proofs.lemmas.Bool.{cases_eq, eqb-true, eq-eqb}
+use Rattle.std.specs.Borrow.{Bor}
+use Rattle.std.specs.List.{Contains, list_any}
 use Rattle.std.proofs.lemmas.List.Elements.{Contains-append_left, Contains-append_right}
-use Rattle.td_gates.proofs.Places.{some-same, none-some, slice_get-some, Contains-slice_get, slice_get-Contains, take_push}
+use Rattle.td_gates.proofs.Places.{some-same, none-some, slice_get-some, Contains-slice_get, slice_get-Contains, get-slice_get, slice_get-map_some, take_push}
 use Rattle.td_nets.specs.Netlist.{Name, Netlist}
 use Rattle.td_nets.specs.Outputs.{CanBeOutputs}
 use Rattle.td_nets.specs.WellFormed.{IsWellFormed}
 use Rattle.td_source.specs.Kept.{Rise, AreAt}
-use Rattle.td_source.specs.Reads.{IsFirstNamed, HasNoneNamed, IsNamed, ArePlaces}
+use Rattle.td_source.specs.Reads.{IsFirstNamed, HasNoneNamed, IsNamed, ArePlaces, AreOutputsIn}
 use Rattle.td_source.specs.Places.{ArePlacesOf, AreSorted, NamesNoneOf}
 use Rattle.td_source.proofs.Naming.{one_place}
-use Rattle.td_source.proofs.Rising.{none_in, at_head, pushed_cases, rise_more, rise_once}
+use Rattle.td_source.proofs.Rising.{none_in, at_head, in_tail, head_or_tail, pushed_cases, rise_more, rise_once}
 
 -- ---- the places of words
 
@@ -54,7 +55,40 @@ pub none_of : (netlist : Netlist) (words : List (List ℕ)) (count : ℕ) (word 
     → NamesNoneOf netlist words
 none_of netlist words count word at none = (word, slice_get-Contains words count word at, none)
 
+-- the word at a place
+word_at : (words : List (Bor (List ℕ))) (i : ℕ) (d : Bor (List ℕ)) → i < length words → slice_get (map (λ word. word.now) words) i ≡ Some (get_or words i d).now
+word_at words i d less = slice_get-map_some (λ (w : Bor (List ℕ)). w.now) words i (get_or words i d) (get-slice_get words i d (get_or words i d) less refl)
+
+pub none_next : (netlist : Netlist) (words : List (Bor (List ℕ))) (i : ℕ) (d : Bor (List ℕ)) → i < length words → HasNoneNamed netlist (get_or words i d).now
+    → NamesNoneOf netlist (map (λ word. word.now) words)
+none_next netlist words i d less none = none_of netlist (map (λ word. word.now) words) i (get_or words i d).now (word_at words i d less) none
+
+pub found_next : (netlist : Netlist) (words : List (Bor (List ℕ))) (i : ℕ) (d : Bor (List ℕ)) (place : ℕ) (places new : List ℕ) → i < length words
+    → IsFirstNamed netlist (get_or words i d).now place → new ≡ places ++ place ∷ [] → AreFound netlist (map (λ word. word.now) words) i places
+    → AreFound netlist (map (λ word. word.now) words) (i + 1) new
+found_next netlist words i d place places new less first added are =
+    found_more netlist (map (λ word. word.now) words) i (get_or words i d).now place places new (word_at words i d less) first added are
+
 -- ---- the places in order
+
+pub any_has : (found : List ℕ) (place : ℕ) → list_any (λ y. y == place) found ≡ true → Contains found place
+any_has [] place e = absurd cc
+any_has (x ∷ xs) place e = go (x == place) refl e
+  where
+    go : (is : Bool) → (x == place) ≡ is → (is || list_any (λ y. y == place) xs) ≡ true → Contains (x ∷ xs) place
+    go true same e = subst (λ (n : ℕ). Contains (x ∷ xs) n) (eqb-true x place same) (at_head x xs)
+    go false other e = in_tail x xs place (any_has xs place e)
+
+pub any_none : (found : List ℕ) (place : ℕ) → list_any (λ y. y == place) found ≡ false → ¬ Contains found place
+any_none [] place e has = none_in place has
+any_none (x ∷ xs) place e has = go (x == place) refl e
+  where
+    go : (is : Bool) → (x == place) ≡ is → (is || list_any (λ y. y == place) xs) ≡ false → ⊥
+    go true same e = true≢false e
+    go false other e = elim (head_or_tail x xs place has) [
+      | inl same ↦ true≢false (sym (eq-eqb x place same) ∙ other)
+      | inr later ↦ any_none xs place e later
+    ]
 
 pub sorted_none : (found : List ℕ) → AreSorted 0 found []
 sorted_none found = record {
@@ -107,6 +141,14 @@ places_sorted netlist words found places of_words sorted = record {
         (sorted.are place).1 (subst (λ (p : ℕ). Contains found p) same at.1, slice_get-some netlist.outputs place named.2.output named.2.stands)),
   );
 }
+
+-- the outputs that words name
+pub named_are : (netlist : Netlist) (words : List (Bor (List ℕ))) (count : ℕ) (found places : List ℕ) → false ≡ (length words == 0) → count ≡ length netlist.outputs
+    → ArePlacesOf netlist (map (λ word. word.now) words) found → AreSorted count found places
+    → AreOutputsIn netlist (map (λ word. word.now) words) (Some places)
+named_are netlist [] count found places some same of_words sorted = absurd (true≢false (sym some))
+named_are netlist (word ∷ words) count found places some same of_words sorted =
+    (places, refl, places_sorted netlist (map (λ word. word.now) (word ∷ words)) found places of_words (subst (λ (n : ℕ). AreSorted n found places) same sorted))
 
 -- the output of a name that is kept, and its place
 pub kept_at : (netlist : Netlist) (places : List ℕ) (names : List Name) (i : ℕ) (name : Name) → AreAt netlist places names → slice_get names i ≡ Some name

@@ -1,5 +1,5 @@
 -- What is read of a text, from the whole netlist and the outputs that are asked about.
-use Rattle.std.proofs.Common.{◌≡◌, ◌<◌, ℕ, List, [], ◌∷◌, length, sym, subst, slice_get, Option, Some, None}
+use Rattle.std.proofs.Common.{◌≡◌, ◌<◌, ℕ, List, [], ◌∷◌, length, refl, sym, subst, slice_get, Option, Some, None}
 use Rattle.std.specs.List.{Contains}
 use Rattle.td_gates.proofs.Places.{slice_get-some}
 use Rattle.td_nets.specs.Netlist.{Netlist}
@@ -36,8 +36,8 @@ asked_about whole (word ∷ words) outputs netlist are has =
 -- and a netlist that is asked about has those outputs
 pub outputs_asked : (whole : Netlist) (words : List (List ℕ)) (netlist : Netlist) → IsAskedAbout whole words netlist
     → (outputs : Option (List ℕ)) × AreOutputsIn whole words outputs × HasOutputs whole outputs netlist
-outputs_asked whole [] netlist asked = (None, Prim.refl, asked)
-outputs_asked whole (word ∷ words) netlist asked = (Some asked.0, (asked.0, Prim.refl, asked.1), asked.2)
+outputs_asked whole [] netlist asked = (None, refl, asked)
+outputs_asked whole (word ∷ words) netlist asked = (Some asked.0, (asked.0, refl, asked.1), asked.2)
 
 pub reads_whole : (text : List ℕ) (reading : Read) (whole : Netlist) (outputs : Option (List ℕ)) (netlist : Netlist) → Means text reading.default whole
     → AreOutputsIn whole reading.outputs outputs → HasOutputs whole outputs netlist → ReadsNetlist text reading netlist

@@ -1,6 +1,6 @@
 //! Circuits that are asked about some of their outputs.
 
-ghost use Rattle.std.specs.Prelude.{◌≡◌, ◌↔◌, length, map, IfOk, IsTrue};
+ghost use Rattle.std.specs.Prelude.{◌≡◌, ◌↔◌, get_or, map, IfOk, IsTrue};
 ghost use Rattle.td_nets.specs.Views.{name_of};
 ghost use Rattle.td_nets.specs.WellFormed.{IsWellFormed};
 ghost use Rattle.td_source.specs.Kept.{AreOutputs, AreAt, HasOutputsAt};
@@ -45,6 +45,16 @@ pub fn are_outputs(circuit: &Circuit, numbers: &[u64]) -> bool
     are_rising(circuit.outputs().len() as u64, numbers)
 }
 
+/// The net of the output with a number, 0 where there is none.
+fn net_at(outputs: &[Net], number: u64) -> Net
+    ensures { result ≡ get_or outputs.now number 0 }
+{
+    match outputs.get(number as usize) {
+        Some(net) => *net,
+        None => 0,
+    }
+}
+
 /// The names and the nets of the outputs with these numbers. The error is out of memory.
 fn choose(alloc: Global, circuit: &Circuit, numbers: &[u64]) -> Result<Chosen, AllocError>
     requires { AreOutputs circuit.now.netlist numbers.now }
@@ -57,7 +67,7 @@ fn choose(alloc: Global, circuit: &Circuit, numbers: &[u64]) -> Result<Chosen, A
     let mut names = Vec::new(alloc);
     let mut nets = Vec::new(alloc);
     for number in numbers {
-        let net = outputs[*number as usize];
+        let net = net_at(outputs, *number);
         let name = circuit.name(net as usize).copied()?;
         names.push(name)?;
         nets.push(net)?;

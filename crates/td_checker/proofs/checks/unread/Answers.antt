@@ -1,0 +1,11 @@
+use Rattle.td_checker.proofs.Texts.{unread_source, unread_certificate}
+use Rattle.td_checker.proofs.checks.unread.Goals as goal
+
+pub returns-in-Ok : goal.returns-in-Ok
+returns-in-Ok c = λ text is.
+    unread_certificate c.args.netlist.now c.args.reading.now text c.in-Ok._whole.circuit.netlist _ c.args.fault c.in-Ok.ensures.means c.in-Ok.ensures.acyclic
+    c.in-Ok.ensures.outputs is
+
+pub returns-in-Err : goal.returns-in-Err
+returns-in-Err c = λ text is.
+    rw c.from.ensures (unread_source c.args.netlist.now c.args.reading.now text c.args.fault c.in-Err.source is ? c.in-Err.ensures.fault)
