@@ -73,21 +73,22 @@ found_next netlist words i d place places new less first added are =
 
 pub any_has : (found : List ℕ) (place : ℕ) → list_any (λ y. y == place) found ≡ true → Contains found place
 any_has [] place e = absurd cc
-any_has (x ∷ xs) place e = go (x == place) refl e
+any_has (x ∷ xs) place e = go (x == place) refl (any_has xs place) e
   where
-    go : (is : Bool) → (x == place) ≡ is → (is || list_any (λ y. y == place) xs) ≡ true → Contains (x ∷ xs) place
-    go true same e = subst (λ (n : ℕ). Contains (x ∷ xs) n) (eqb-true x place same) (at_head x xs)
-    go false other e = in_tail x xs place (any_has xs place e)
+    go : (is : Bool) → (x == place) ≡ is → (list_any (λ y. y == place) xs ≡ true → Contains xs place) → (is || list_any (λ y. y == place) xs) ≡ true
+        → Contains (x ∷ xs) place
+    go true same later e = subst (λ (n : ℕ). Contains (x ∷ xs) n) (eqb-true x place same) (at_head x xs)
+    go false other later e = in_tail x xs place (later e)
 
 pub any_none : (found : List ℕ) (place : ℕ) → list_any (λ y. y == place) found ≡ false → ¬ Contains found place
 any_none [] place e has = none_in place has
-any_none (x ∷ xs) place e has = go (x == place) refl e
+any_none (x ∷ xs) place e has = go (x == place) refl (any_none xs place) e
   where
-    go : (is : Bool) → (x == place) ≡ is → (is || list_any (λ y. y == place) xs) ≡ false → ⊥
-    go true same e = true≢false e
-    go false other e = elim (head_or_tail x xs place has) [
+    go : (is : Bool) → (x == place) ≡ is → (list_any (λ y. y == place) xs ≡ false → ¬ Contains xs place) → (is || list_any (λ y. y == place) xs) ≡ false → ⊥
+    go true same later e = true≢false e
+    go false other later e = elim (head_or_tail x xs place has) [
       | inl same ↦ true≢false (sym (eq-eqb x place same) ∙ other)
-      | inr later ↦ any_none xs place e later
+      | inr behind ↦ later e behind
     ]
 
 pub sorted_none : (found : List ℕ) → AreSorted 0 found []
