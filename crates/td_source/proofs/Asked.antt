@@ -4,7 +4,7 @@ use Rattle.std.specs.Prelude.{◌↔◌, IsTrue, nat_lt}
 use Rattle.std.specs.List.{Contains}
 use Rattle.std.proofs.lemmas.Bool.{lt-ltb, ltb-true}
 use Rattle.std.proofs.lemmas.List.{length-map, map-append}
-use Rattle.td_gates.proofs.Places.{some-same, none-some, slice_get-some, slice_get-within, slice_get-Contains, slice_get-get, get-slice_get, take_push}
+use Rattle.td_gates.proofs.Places.{some-same, none-some, slice_get-some, slice_get-within, slice_get-Contains, get-slice_get, take_push}
 use Rattle.td_nets.specs.declared.name.Name as code_name
 use Rattle.td_nets.specs.Netlist.{Name, Net, Named, Netlist}
 use Rattle.td_nets.specs.Views.{name_of}
@@ -13,7 +13,7 @@ use Rattle.td_nets.specs.Outputs.{with_outputs}
 use Rattle.td_nets.proofs.Outputs.{formed_with}
 use Rattle.td_circuit.specs.Loops.{Loop, LiesOnLoop}
 use Rattle.td_circuit.specs.Numbering.{Numbered, nets, IsNumbering, CanBeAsked}
-use Rattle.td_source.specs.Kept.{Rise, AreOutputs, AreAt, AreNumbers, HasOutputsAt, HasOutputs}
+use Rattle.td_source.specs.Kept.{Rise, AreOutputs, AreAt, AreNumbers, HasOutputs}
 use Rattle.td_source.specs.Places.{are_rising, nets_at}
 use Rattle.td_source.proofs.Keeping.{kept_at, kept_can}
 use Rattle.td_source.proofs.OutputNets.{output_at, output_named, output_count}
@@ -63,7 +63,7 @@ pub outputs_by : (netlist : Netlist) (numbers : List ℕ) (count : ℕ) (result 
 outputs_by netlist numbers count true e same = (
   (λ _. let are = rising_are count numbers (sym e) in
       record { rising = are.0; within = λ number has. subst (λ (n : ℕ). number < n) same (are.1 number has) }),
-  λ _. tt,
+  λ _. refl,
 )
 outputs_by netlist numbers count false e same = (
   (λ no. absurd (true≢false (sym no))),

@@ -1,10 +1,10 @@
 -- The outputs that are kept, as they are found, and why they can be a netlist's.
-use Rattle.std.proofs.Common.{◌≡◌, ◌<◌, ◌≤◌, ◌+◌, ◌∙◌, ◌==◌, ◌||◌, ℕ, zero, suc, Bool, true, false, List, [], ◌∷◌, ◌++◌, length, take, map, get_or, refl, sym, ap, ap₂, subst, arith, inl, inr, slice_get, Option, Some, None, true≢false}
+use Rattle.std.proofs.Common.{◌≡◌, ◌<◌, ◌+◌, ◌∙◌, ◌==◌, ◌||◌, ℕ, zero, suc, Bool, true, false, List, [], ◌∷◌, ◌++◌, length, take, map, get_or, refl, sym, ap, subst, arith, inl, inr, slice_get, Some, true≢false}
 use Rattle.std.proofs.lemmas.Bool.{cases_eq, eqb-true, eq-eqb}
 use Rattle.std.specs.Borrow.{Bor}
 use Rattle.std.specs.List.{Contains, list_any}
 use Rattle.std.proofs.lemmas.List.Elements.{Contains-append_left, Contains-append_right}
-use Rattle.td_gates.proofs.Places.{some-same, none-some, slice_get-some, Contains-slice_get, slice_get-Contains, get-slice_get, slice_get-map_some, take_push}
+use Rattle.td_gates.proofs.Places.{none-some, slice_get-some, Contains-slice_get, slice_get-Contains, get-slice_get, slice_get-map_some, take_push}
 use Rattle.td_nets.specs.Netlist.{Name, Netlist}
 use Rattle.td_nets.specs.Outputs.{CanBeOutputs}
 use Rattle.td_nets.specs.WellFormed.{IsWellFormed}
