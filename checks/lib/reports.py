@@ -82,6 +82,8 @@ def value_in(key, text):
         return number_in(text)
     if key in NUMBERS:
         return None if text == "none" else [number_in(word) for word in fields]
+    if key == "output" and all(word.isdigit() for word in fields):
+        return [number_in(word) for word in fields]  # the outputs that a certificate names
     if key == "output" and not text[:1].isdigit():
         return text  # a name alone: the output that changes last
     if key == "each":

@@ -566,7 +566,8 @@ Each verdict but for `Accepted`.
     help: the certificate is wrong: search again
   [4]
 
-  $ bash hint.sh inverter.v 'tdelay-cert 4/circuit 1 1/default 1 2/output all/first ./second ./hold ./flips 1/at 0/keep none/time 3/high 3/from 0/to 1/b a 3/'
+  $ echo 'tdelay-cert 4/circuit 1 1/default 1 2/output all/first ./second ./hold ./flips 1/at 0/keep none/time 3/high 3/from 0/to 1/b a 3' | tr / '\n' > c
+  $ tdelay check inverter.v c --default-fall 1 --hints
   refused 11 OtherQuestion line 3
   c:3: it is about other default delays, or about other outputs
     help: give the --default-rise, --default-fall and --output of its search: its line has them

@@ -109,8 +109,8 @@ The netlist with one output: bounds, a search, its certificate, and parts of it.
   accepted 2
   output 0
   $ tdelay check two.v y.cert
-  refused 11 OtherQuestion line 4
-  [4]
+  accepted 2
+  output 0
   $ tdelay check two.v y.cert --output z
   refused 11 OtherQuestion line 4
   [4]

@@ -1,10 +1,10 @@
 -- Circuits that are asked about some of their outputs.
-use Rattle.std.proofs.Common.{◌≡◌, ◌<◌, ◌+◌, ◌∙◌, ◌&&◌, ℕ, zero, suc, Bool, true, false, List, [], ◌∷◌, ◌++◌, length, take, map, get_or, refl, sym, ap, ap₂, subst, arith, inl, inr, slice_get, Option, Some, None, true≢false}
+use Rattle.std.proofs.Common.{◌≡◌, ◌<◌, ◌≤◌, ◌+◌, ◌∙◌, ◌&&◌, ℕ, zero, suc, Bool, true, false, List, [], ◌∷◌, ◌++◌, length, take, map, get_or, refl, sym, ap, ap₂, subst, arith, inl, inr, slice_get, Option, Some, None, true≢false}
 use Rattle.std.specs.Prelude.{◌↔◌, IsTrue, nat_lt}
 use Rattle.std.specs.List.{Contains}
 use Rattle.std.proofs.lemmas.Bool.{lt-ltb, ltb-true}
 use Rattle.std.proofs.lemmas.List.{length-map, map-append}
-use Rattle.td_gates.proofs.Places.{some-same, none-some, slice_get-some, slice_get-within, slice_get-Contains, slice_get-get, get-slice_get, take_push}
+use Rattle.td_gates.proofs.Places.{some-same, none-some, slice_get-some, slice_get-within, slice_get-Contains, get-slice_get, take_push}
 use Rattle.td_nets.specs.declared.name.Name as code_name
 use Rattle.td_nets.specs.Netlist.{Name, Net, Named, Netlist}
 use Rattle.td_nets.specs.Views.{name_of}
@@ -13,7 +13,7 @@ use Rattle.td_nets.specs.Outputs.{with_outputs}
 use Rattle.td_nets.proofs.Outputs.{formed_with}
 use Rattle.td_circuit.specs.Loops.{Loop, LiesOnLoop}
 use Rattle.td_circuit.specs.Numbering.{Numbered, nets, IsNumbering, CanBeAsked}
-use Rattle.td_source.specs.Kept.{Rise, AreOutputs, AreAt, AreNumbers, HasOutputsAt, HasOutputs}
+use Rattle.td_source.specs.Kept.{Rise, AreOutputs, AreAt, AreNumbers, HasOutputs}
 use Rattle.td_source.specs.Places.{are_rising, nets_at}
 use Rattle.td_source.proofs.Keeping.{kept_at, kept_can}
 use Rattle.td_source.proofs.OutputNets.{output_at, output_named, output_count}
@@ -63,26 +63,21 @@ pub outputs_by : (netlist : Netlist) (numbers : List ℕ) (count : ℕ) (result 
 outputs_by netlist numbers count true e same = (
   (λ _. let are = rising_are count numbers (sym e) in
       record { rising = are.0; within = λ number has. subst (λ (n : ℕ). number < n) same (are.1 number has) }),
-  λ _. tt,
+  λ _. refl,
 )
 outputs_by netlist numbers count false e same = (
-  (λ no. absurd no),
+  (λ no. absurd (true≢false (sym no))),
   λ are. absurd (true≢false
       (sym (are_rising_true count numbers are.rising (λ number has. subst (λ (n : ℕ). number < n) (sym same) (are.within number has))) ∙ sym e)),
 )
 
 -- ---- names and nets
 
-none_default : (xs : List ℕ) (i : ℕ) → slice_get xs i ≡ None → get_or xs i 0 ≡ 0
-none_default [] i e = refl
-none_default (x ∷ xs) zero e = absurd cc
-none_default (x ∷ xs) (suc i) e = none_default xs i e
-
-pub read_some : (xs : List ℕ) (i x : ℕ) → slice_get xs i ≡ Some x → x ≡ get_or xs i 0
-read_some xs i x e = sym (slice_get-get xs i x 0 e)
-
-pub read_none : (xs : List ℕ) (i : ℕ) → slice_get xs i ≡ None → 0 ≡ get_or xs i 0
-read_none xs i e = sym (none_default xs i e)
+-- beyond a list there is nothing to read
+pub read_beyond : (xs : List ℕ) (i : ℕ) → length xs ≤ i → 0 ≡ get_or xs i 0
+read_beyond [] i less = refl
+read_beyond (x ∷ xs) zero less = absurd (omega (arith, less))
+read_beyond (x ∷ xs) (suc i) less = read_beyond xs i (omega (arith, less))
 
 -- the output with the number at a place of a list
 pub record ChosenAt (circuit : Numbered) (numbers : List ℕ) (i : ℕ) (net : ℕ) : Type 0 where
@@ -108,18 +103,6 @@ chosen_at circuit numbering numbers i outputs net fit less same read =
       below = omega (arith, is, out.within);
     }
 
--- one more name
-pub name_next : (circuit : Numbered) → IsNumbering circuit → (numbers : List ℕ) (i net : ℕ) → ChosenAt circuit numbers i net → (names new : List code_name.Name)
-    → (name : code_name.Name) (found : Name) → slice_get (nets circuit) net ≡ Some (Named found) → name_of name ≡ found → new ≡ names ++ name ∷ []
-    → AreAt circuit.netlist (take i numbers) (map name_of names) → AreAt circuit.netlist (take (i + 1) numbers) (map name_of new)
-name_next circuit numbering numbers i net chosen names new name found at_net is added are =
-    let number = get_or numbers i 0 in
-    let net_is : slice_get (nets circuit) (get_or circuit.outputs (get_or numbers i 0) 0) ≡ Some (Named found) =
-    subst (λ (n : ℕ). slice_get (nets circuit) n ≡ Some (Named found)) chosen.is at_net in
-    let stands = output_named circuit numbering (get_or numbers i 0) chosen.within found net_is ∙ ap (λ (n : Name). Some n) (sym is) in
-    names_more circuit.netlist numbers i (get_or numbers i 0) (map name_of names) (map name_of new) (name_of name) chosen.at stands
-    (ap (map name_of) added ∙ map-append name_of names (name ∷ [])) are
-
 pub names_more : (netlist : Netlist) (numbers : List ℕ) (i number : ℕ) (names new : List Name) (name : Name) → slice_get numbers i ≡ Some number
     → slice_get netlist.outputs number ≡ Some name → new ≡ names ++ name ∷ [] → AreAt netlist (take i numbers) names → AreAt netlist (take (i + 1) numbers) new
 names_more netlist numbers i number names new name at stands added are =
@@ -135,6 +118,18 @@ nets_more circuit numbers i number before new net at is added are =
     let next : i + 1 ≡ suc i = omega arith in
     rw (next, take_push numbers i number at)
     (added ∙ ap₂ (λ xs x. xs ++ x ∷ []) are is ∙ sym (map-append (λ (n : ℕ). get_or circuit.outputs n 0) (take i numbers) (number ∷ [])))
+
+-- one more name
+pub name_next : (circuit : Numbered) → IsNumbering circuit → (numbers : List ℕ) (i net : ℕ) → ChosenAt circuit numbers i net → (names new : List code_name.Name)
+    → (name : code_name.Name) (found : Name) → slice_get (nets circuit) net ≡ Some (Named found) → name_of name ≡ found → new ≡ names ++ name ∷ []
+    → AreAt circuit.netlist (take i numbers) (map name_of names) → AreAt circuit.netlist (take (i + 1) numbers) (map name_of new)
+name_next circuit numbering numbers i net chosen names new name found at_net is added are =
+    let number = get_or numbers i 0 in
+    let net_is : slice_get (nets circuit) (get_or circuit.outputs (get_or numbers i 0) 0) ≡ Some (Named found) =
+    subst (λ (n : ℕ). slice_get (nets circuit) n ≡ Some (Named found)) chosen.is at_net in
+    let stands = output_named circuit numbering (get_or numbers i 0) chosen.within found net_is ∙ ap (λ (n : Name). Some n) (sym is) in
+    names_more circuit.netlist numbers i (get_or numbers i 0) (map name_of names) (map name_of new) (name_of name) chosen.at stands
+    (ap (map name_of) added ∙ map-append name_of names (name ∷ [])) are
 
 -- what stands in a mapped list comes from what stands there
 map_at : {A B : Type 0} (f : A → B) (xs : List A) (i : ℕ) (y : B) → slice_get (map f xs) i ≡ Some y → (x : A) × (slice_get xs i ≡ Some x) × (f x ≡ y)

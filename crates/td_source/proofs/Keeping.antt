@@ -1,10 +1,10 @@
 -- The outputs that are kept, as they are found, and why they can be a netlist's.
-use Rattle.std.proofs.Common.{◌≡◌, ◌<◌, ◌≤◌, ◌+◌, ◌∙◌, ◌==◌, ◌||◌, ℕ, zero, suc, Bool, true, false, List, [], ◌∷◌, ◌++◌, length, take, map, get_or, refl, sym, ap, ap₂, subst, arith, inl, inr, slice_get, Option, Some, None, true≢false}
+use Rattle.std.proofs.Common.{◌≡◌, ◌<◌, ◌+◌, ◌∙◌, ◌==◌, ◌||◌, ℕ, zero, suc, Bool, true, false, List, [], ◌∷◌, ◌++◌, length, take, map, get_or, refl, sym, ap, subst, arith, inl, inr, slice_get, Some, true≢false}
 use Rattle.std.proofs.lemmas.Bool.{cases_eq, eqb-true, eq-eqb}
 use Rattle.std.specs.Borrow.{Bor}
 use Rattle.std.specs.List.{Contains, list_any}
 use Rattle.std.proofs.lemmas.List.Elements.{Contains-append_left, Contains-append_right}
-use Rattle.td_gates.proofs.Places.{some-same, none-some, slice_get-some, Contains-slice_get, slice_get-Contains, get-slice_get, slice_get-map_some, take_push}
+use Rattle.td_gates.proofs.Places.{none-some, slice_get-some, Contains-slice_get, slice_get-Contains, get-slice_get, slice_get-map_some, take_push}
 use Rattle.td_nets.specs.Netlist.{Name, Netlist}
 use Rattle.td_nets.specs.Outputs.{CanBeOutputs}
 use Rattle.td_nets.specs.WellFormed.{IsWellFormed}
@@ -73,21 +73,22 @@ found_next netlist words i d place places new less first added are =
 
 pub any_has : (found : List ℕ) (place : ℕ) → list_any (λ y. y == place) found ≡ true → Contains found place
 any_has [] place e = absurd cc
-any_has (x ∷ xs) place e = go (x == place) refl e
+any_has (x ∷ xs) place e = go (x == place) refl (any_has xs place) e
   where
-    go : (is : Bool) → (x == place) ≡ is → (is || list_any (λ y. y == place) xs) ≡ true → Contains (x ∷ xs) place
-    go true same e = subst (λ (n : ℕ). Contains (x ∷ xs) n) (eqb-true x place same) (at_head x xs)
-    go false other e = in_tail x xs place (any_has xs place e)
+    go : (is : Bool) → (x == place) ≡ is → (list_any (λ y. y == place) xs ≡ true → Contains xs place) → (is || list_any (λ y. y == place) xs) ≡ true
+        → Contains (x ∷ xs) place
+    go true same later e = subst (λ (n : ℕ). Contains (x ∷ xs) n) (eqb-true x place same) (at_head x xs)
+    go false other later e = in_tail x xs place (later e)
 
 pub any_none : (found : List ℕ) (place : ℕ) → list_any (λ y. y == place) found ≡ false → ¬ Contains found place
 any_none [] place e has = none_in place has
-any_none (x ∷ xs) place e has = go (x == place) refl e
+any_none (x ∷ xs) place e has = go (x == place) refl (any_none xs place) e
   where
-    go : (is : Bool) → (x == place) ≡ is → (is || list_any (λ y. y == place) xs) ≡ false → ⊥
-    go true same e = true≢false e
-    go false other e = elim (head_or_tail x xs place has) [
+    go : (is : Bool) → (x == place) ≡ is → (list_any (λ y. y == place) xs ≡ false → ¬ Contains xs place) → (is || list_any (λ y. y == place) xs) ≡ false → ⊥
+    go true same later e = true≢false e
+    go false other later e = elim (head_or_tail x xs place has) [
       | inl same ↦ true≢false (sym (eq-eqb x place same) ∙ other)
-      | inr later ↦ any_none xs place e later
+      | inr behind ↦ later e behind
     ]
 
 pub sorted_none : (found : List ℕ) → AreSorted 0 found []

@@ -1,5 +1,5 @@
 -- The first output of a name, and the one netlist that is read of a text.
-use Rattle.std.proofs.Common.{◌≡◌, ◌≢◌, ◌≤◌, ◌+◌, ◌∙◌, ℕ, List, [], ◌∷◌, length, map, refl, sym, ap, ap₂, subst, arith, inl, inr, slice_get, Option, Some, None}
+use Rattle.std.proofs.Common.{◌≡◌, ◌≢◌, ◌≤◌, ◌+◌, ◌∙◌, ℕ, List, [], ◌∷◌, length, map, refl, sym, ap, ap₂, subst, arith, inl, inr, slice_get, Option, Some}
 use Rattle.std.proofs.lemmas.Bool.{cases_eq, cases_lt}
 use Rattle.td_gates.proofs.Places.{some-same, slice_get-some, Contains-slice_get}
 use Rattle.td_nets.specs.Netlist.{Name, Netlist}
@@ -13,8 +13,8 @@ use Rattle.td_netlist.proofs.Readings.{one_netlist}
 use Rattle.td_reading.specs.declared.reading.Reading.{Reading}
 use Rattle.td_source.specs.declared.fault.SourceFault.{SourceFault}
 use Rattle.td_source.specs.Faults.{IsOfFault, IsSourceFault}
-use Rattle.td_source.specs.Kept.{HasOutputsAt, HasOutputs}
-use Rattle.td_source.specs.Reads.{NoneBefore, IsFirstNamed, HasNoneNamed, ArePlaces, IsAskedAbout, ReadsNetlist, ReadsOne, AreOutputsIn, AreOutputsOf}
+use Rattle.td_source.specs.Kept.{HasOutputsAt}
+use Rattle.td_source.specs.Reads.{NoneBefore, IsFirstNamed, HasNoneNamed, ArePlaces, IsAskedAbout, ReadsOne, AreOutputsIn, AreOutputsOf}
 use Rattle.td_source.proofs.Rising.{rise_same}
 
 -- one more output that isn't printed so

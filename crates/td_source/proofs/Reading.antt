@@ -1,6 +1,5 @@
 -- What is read of a text, from the whole netlist and the outputs that are asked about.
-use Rattle.std.proofs.Common.{◌≡◌, ◌<◌, ℕ, List, [], ◌∷◌, length, refl, sym, subst, slice_get, Option, Some, None}
-use Rattle.std.specs.List.{Contains}
+use Rattle.std.proofs.Common.{ℕ, List, [], ◌∷◌, refl, sym, subst, Option, Some, None}
 use Rattle.td_gates.proofs.Places.{slice_get-some}
 use Rattle.td_nets.specs.Netlist.{Netlist}
 use Rattle.td_netlist.specs.Means.{Means}
@@ -11,7 +10,7 @@ use Rattle.td_circuit.specs.Loops.{Loop}
 use Rattle.td_reading.specs.declared.reading.Reading.{Reading as Read}
 use Rattle.td_source.specs.declared.fault.SourceFault.{SourceFault}
 use Rattle.td_source.specs.Kept.{AreOutputs, AreNumbers, HasOutputs}
-use Rattle.td_source.specs.Reads.{ArePlaces, IsAskedAbout, AreOutputsIn, AreOutputsOf, ReadsNetlist, HasCircuit}
+use Rattle.td_source.specs.Reads.{ArePlaces, IsAskedAbout, AreOutputsIn, ReadsNetlist, HasCircuit}
 use Rattle.td_source.specs.Faults.{IsOfLoop, IsSourceFault}
 use Rattle.td_source.proofs.Asked.{outputs_exist, lies_too, acyclic_too}
 

@@ -1,5 +1,5 @@
 -- Internal: the places of outputs, as they are found, and numbers of outputs.
-use Rattle.std.specs.Prelude.{◌≡◌, ℕ, ◌<◌, ◌↔◌, ◌&&◌, Bool, true, List, [], ◌∷◌, get_or, map, nat_lt}
+use Rattle.std.specs.Prelude.{ℕ, ◌<◌, ◌↔◌, ◌&&◌, Bool, true, List, [], ◌∷◌, get_or, map, nat_lt}
 use Rattle.std.specs.List.{Contains}
 use Rattle.td_nets.specs.Netlist.{Netlist}
 use Rattle.td_circuit.specs.Numbering.{Numbered}

@@ -46,12 +46,15 @@ pub fn are_outputs(circuit: &Circuit, numbers: &[u64]) -> bool
 }
 
 /// The net of the output with a number, 0 where there is none.
+#[tactic(auto, using(crate::proofs::Asked::read_beyond))]
 fn net_at(outputs: &[Net], number: u64) -> Net
     ensures { result ≡ get_or outputs.now number 0 }
 {
-    match outputs.get(number as usize) {
-        Some(net) => *net,
-        None => 0,
+    let place = number as usize;
+    if place < outputs.len() {
+        outputs[place]
+    } else {
+        0
     }
 }
 

@@ -1,6 +1,5 @@
 use Rattle.td_nets.specs.Views.{name_of}
 use Rattle.td_source.proofs.Asked.{chosen_at, name_next, nets_more}
-use Rattle.std.proofs.Common.{length, map, ap, ◌∙◌, arith}
 use Rattle.td_source.proofs.asking.choose.Goals as goal
 
 pub name-requires-clause-constant : goal.name-requires-clause-constant

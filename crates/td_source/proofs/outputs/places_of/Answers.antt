@@ -1,4 +1,4 @@
-use Rattle.std.proofs.Common.{length, map, arith, take_all}
+use Rattle.std.proofs.Common.{map, arith, take_all}
 use Rattle.std.proofs.lemmas.List.{length-map}
 use Rattle.td_source.proofs.Keeping.{found_all, found_next, none_next}
 use Rattle.td_source.proofs.outputs.places_of.Goals as goal

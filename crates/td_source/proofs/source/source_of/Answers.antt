@@ -1,4 +1,4 @@
-use Rattle.std.proofs.Common.{subst, sym}
+use Rattle.std.proofs.Common.{ℕ, List, Option, subst, sym}
 use Rattle.td_source.specs.Reads.{AreOutputsIn}
 use Rattle.td_source.proofs.Reading.{numbers_fit, circuit_whole}
 use Rattle.td_source.proofs.source.source_of.Goals as goal
@@ -15,5 +15,6 @@ pub returns-clause-outputs : goal.returns-clause-outputs
 returns-clause-outputs c = record {
   whole = c.in_ok-whole.whole.circuit.netlist;
   means = c.in_ok-whole.ensures.means;
-  are = rw (sym c.in_ok-source.ensures.outputs) c.in_ok-whole.ensures.outputs;
+  are = subst (λ (o : Option (List ℕ)). AreOutputsIn c.in_ok-whole.whole.circuit.netlist c.args.reading.now.outputs o) (sym c.in_ok-source.ensures.outputs)
+      c.in_ok-whole.ensures.outputs;
 }
