@@ -280,7 +280,7 @@ fn common_by<'a>(
     matches: &ArgMatches<'a>,
     reading: Reading<'a>,
 ) -> Option<Common<'a>>
-    requires { SaysReading name.now (rows_of (found_of matches.now)) reading.entry }
+    requires { SaysReading name.now (rows_of (found_of matches.now)) reading }
     ensures { IsAnswered (SaysCommon name.now (rows_of (found_of matches.now))) result }
 {
     let file = needed(matches, "FILE")?;
