@@ -276,7 +276,7 @@ struct Common<'a> {
 
 /// What each command says, of a netlist's text that is read so.
 fn common_by<'a>(name: &str, matches: &ArgMatches<'a>, reading: Reading<'a>) -> Option<Common<'a>>
-    requires { SaysReading name.now (rows_of (found_of matches.now)) reading.entry }
+    requires { SaysReading name.now (rows_of (found_of matches.now)) reading }
     ensures { IsAnswered (SaysCommon name.now (rows_of (found_of matches.now))) result }
 {
     let file = needed(matches, "FILE")?;
