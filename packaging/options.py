@@ -16,7 +16,7 @@ import help_text
 TOP = os.path.dirname(os.path.dirname(os.path.abspath(__file__)))
 PAGE = os.path.join(TOP, "docs", "MANUAL.md")
 PLACE = re.compile(
-    r"(<!-- Written by tools/options\.py (\w+), to the next comment\. -->\n)(.*?)"
+    r"(<!-- Written by packaging/options\.py (\w+), to the next comment\. -->\n)(.*?)"
     r"(<!-- The end of \2\. -->\n)",
     re.S,
 )
