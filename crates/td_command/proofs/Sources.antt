@@ -1,6 +1,6 @@
 -- Where the values of options come from, and all the words of one, by the rows of a command's
 -- matches.
-use Rattle.std.proofs.Common.{◌≡◌, ◌∙◌, Bool, true, false, cond, List, [], ◌∷◌, ◌++◌, map, Option, Some, None, refl, sym, ap}
+use Rattle.std.proofs.Common.{◌≡◌, ◌∙◌, Bool, true, false, cond, List, [], ◌∷◌, ◌++◌, map, Option, Some, None, refl, ap}
 use Rattle.std.specs.Prelude.{find, option_map, option_and_then}
 use Rattle.std.specs.Option.{option_map_or}
 use Rattle.std.specs.Str.{bytes_eq}
@@ -9,7 +9,6 @@ use Rattle.clap.specs.Facts.{Entry}
 use Rattle.clap.specs.Matches.{matched_of}
 use Rattle.clap.specs.Walk.{Row, Text, all_of, row_of, rows_of}
 use Rattle.clap.specs.declared.parser.matches.Found.{Found}
-use Rattle.clap.specs.declared.parser.matches.ValueSource.{ValueSource}
 use Rattle.td_command.specs.CommandLine.{source_in, words_of}
 
 -- the source of the first entry of an id is that of its row

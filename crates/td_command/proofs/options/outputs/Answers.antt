@@ -1,4 +1,4 @@
-use Rattle.std.proofs.Common.{◌∙◌, refl}
+use Rattle.std.proofs.Common.{◌∙◌}
 use Rattle.clap.specs.Words.{found_of, rows_of}
 use Rattle.clap.proofs.WalkLemmas.{raw_values-rows}
 use Rattle.td_command.proofs.Sources.{words_are, no_words_are}
@@ -6,9 +6,9 @@ use Rattle.td_command.proofs.options.outputs.Goals as goal
 
 pub returns-in_ok-extend_from_slice-in-Some : goal.returns-in_ok-extend_from_slice-in-Some
 returns-in_ok-extend_from_slice-in-Some c =
-    c.new-in-Some.ensures
+    c.new.ensures
     ∙ words_are c.args.id.now (rows_of (found_of c.args.matches.now)) c.in-Some.given.now c.new-names.result.items c.extend_from_slice.new.self.items
-    (c.in-Some.ensures ∙ raw_values-rows (found_of c.args.matches.now) c.args.id.now) c.in_ok-extend_from_slice.ensures.items c.new-names.ensures.items
+    (c.in-Some.ensures ∙ raw_values-rows (found_of c.args.matches.now) c.args.id.now) c.in_ok-extend_from_slice-in-Some.ensures.items c.new-names.ensures.items
 
 pub returns-in-None : goal.returns-in-None
 returns-in-None c =
