@@ -28,9 +28,6 @@ LONGEST = 40
 ALONE = re.compile(r"tdelay (sim|path|bound|worst|parts|join|check|info) [^|;&<>`()\n]*")
 OTHER = re.compile(r" -- | --json| --help| -h| -q|(--cert|--vcd|-o)[ =]?-( |$)|(--workers|-j)")
 
-# What a program that was compiled without proofs says, and what a proved one says there.
-UNPROVED = {'{"proved":false,': '{"proved":true,', ", compiled without proofs": ""}
-
 
 def cases(text):
     """Gives (line, command, expected lines) for each command of a transcript."""
@@ -50,9 +47,7 @@ def printed(command, folder, environment):
     those of a proved program, whatever this one says of itself."""
     ran = running.run_bytes(["bash", "-c", command], folder, seconds=LONGEST, env=environment)
     text = (ran.out + ran.err).decode(errors="backslashreplace")
-    for here, there in UNPROVED.items():
-        text = text.replace(here, there)
-    lines = text.splitlines()
+    lines = reports.as_proved(text).splitlines()
     return ran, lines + [f"[{ran.status}]"] * (ran.status != 0)
 
 

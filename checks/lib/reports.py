@@ -4,6 +4,8 @@ import json
 import re
 from collections import namedtuple
 
+# What a program that was compiled without proofs says, and what a proved one says there.
+UNPROVED = {'{"proved":false,': '{"proved":true,', ", compiled without proofs": ""}
 # The lower and the upper figure of a search.
 Figures = namedtuple("Figures", "low high")
 
@@ -120,3 +122,10 @@ def lines_of_json(text):
     is_line = text.count("\n") == 1 and text.endswith("\n")
     is_report = isinstance(pairs, list) and pairs[:1] in ([("proved", True)], [("proved", False)])
     return pairs[1:] if is_line and is_report else None
+
+
+def as_proved(text):
+    """What a proved program prints, where one that may be compiled without proofs prints this."""
+    for here, there in UNPROVED.items():
+        text = text.replace(here, there)
+    return text
