@@ -7,7 +7,7 @@ use Rattle.std.proofs.lemmas.List.Concat.{flat_map-append, flat_map-cons}
 use Rattle.std.proofs.lemmas.List.Elements.{All-from_recursion}
 use Rattle.td_reading.specs.declared.reading.Reading.{Reading}
 use Rattle.td_reading.specs.declared.told.Told.{Told}
-use Rattle.td_gates.specs.Delays.{Delays}
+use Rattle.td_gates.specs.Delays.{Delays, IsInRange}
 use Rattle.td_gates.proofs.Places.{slice_get-Contains}
 use Rattle.td_nets.specs.Netlist.{Netlist}
 use Rattle.td_nets.specs.WellFormed.{IsWellFormed}
@@ -30,7 +30,7 @@ use Rattle.td_certificate.specs.declared.fault.CertFaultKind.{CertFaultKind}
 use Rattle.td_certificate.specs.declared.fault.CertFaultKind.TheVariants as kind
 use Rattle.td_certificate.specs.Questions.{Terms}
 use Rattle.td_certificate.specs.Text.{node_line}
-use Rattle.td_certificate.specs.Spelling.{head_lines, ended, spelling, HasSpelling, Spells}
+use Rattle.td_certificate.specs.Spelling.{head_lines, ended, spelling, AreTerms, HasSpelling, Spells}
 use Rattle.td_domain.specs.declared.cubes.Trit.{Trit}
 use Rattle.td_refutation.specs.Whole.{Step}
 use Rattle.td_certificate.specs.declared.tree.Node.{Node}
@@ -223,6 +223,10 @@ reported_only netlist_text reading told text (Ok reported) found fails v have = 
 reported_only netlist_text reading told text (Err reported) found fails v have = fault_is_memory netlist_text reading told text reported v fails have
 
 -- ---- what is told is true
+
+-- the delays that a certificate tells are in range
+pub default_in_range : (c : Certificate) (terms : Terms) → HasSpelling c → Some terms ≡ c.question.terms → IsInRange terms.default
+default_in_range c terms has is = (subst AreTerms (sym is) has.terms).0
 
 -- the moments of a certificate of this circuit are the circuit's
 pub moments_fit : (netlist : Netlist) (c : Certificate) → IsOfSize netlist c → HasSpelling c → AreMoments netlist c.question.moments

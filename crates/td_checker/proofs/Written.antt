@@ -197,7 +197,7 @@ accepted_has netlist_text reading told netlist c outputs reads acyclic asked are
       asked = named;
       is = inl (
         subst (λ (o : Option (List ℕ)). AreNumbers reads.whole o) (sym numbers) (numbers_fit reads.whole reading.outputs outputs named),
-        (netlist, subst (λ (o : Option (List ℕ)). HasOutputs reads.whole o netlist) (sym numbers) has, terms_told reading told outputs c.question.terms are, accepts),
+        (netlist, subst (λ (o : Option (List ℕ)). HasOutputs reads.whole o netlist) (sym numbers) has, (terms_told reading told outputs c.question.terms are, accepts)),
       );
     }
 

@@ -6,7 +6,7 @@ use Rattle.td_reading.specs.declared.told.Told.{Told}
 use Rattle.td_nets.specs.Netlist.{Netlist}
 use Rattle.td_circuit.specs.Settings.{Setting}
 use Rattle.td_domain.specs.declared.cubes.Trit.{Trit}
-use Rattle.td_refutation.specs.Asking.{Asking, IsAskedAbout}
+use Rattle.td_refutation.specs.Asking.{Asking}
 use Rattle.td_source.specs.Kept.{AreNumbers, HasOutputs}
 use Rattle.td_certificate.specs.declared.tree.Node.{Node}
 use Rattle.td_certificate.specs.declared.tree.Node.TheVariants as node

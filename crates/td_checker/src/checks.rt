@@ -9,13 +9,13 @@ ghost use Rattle.td_checker.specs.declared.verdict.CheckFault.TheVariants as mem
 ghost use Rattle.td_checker.specs.Checks.{told_all, default_for, with_default, HasVerdict, HaveVerdict, IsWholeFault, IsCheckFault, IsCertificateFault, IsReportedAs, TellsTruth, TellsTruthOf};
 ghost use Rattle.td_checker.specs.Verdicts.{line_total};
 
-use crate::comparing::{Saying, listed, verdict_of_whole};
+use crate::comparing::{Saying, verdict_of_whole};
 use crate::verdict::{CheckFault, Checked, Verdict};
 use std::alloc::Global;
 use td_certificate::{CertFaultKind, Certificate};
 use td_gates::Delay;
 use td_reading::{Reading, Told};
-use td_source::whole_of;
+use td_source::{Source, whole_of};
 
 /// The certificate that a text spells.
 fn spelled_by<'a>(alloc: Global, text: &[u8]) -> Result<Certificate, CheckFault<'a>>
@@ -31,8 +31,9 @@ fn spelled_by<'a>(alloc: Global, text: &[u8]) -> Result<Certificate, CheckFault<
     }
 }
 
-/// The delay of gates that state none: the one that a certificate tells, else this.
+/// The delay of gates that state none: the one that a certificate that has a text tells, else this.
 fn default_for(default: Delay, certificate: &Certificate) -> Delay
+    requires { HasSpelling certificate.now }
     ensures { result ≡ default_for default certificate.now.question.terms }
 {
     match certificate.question.terms() {
@@ -60,12 +61,13 @@ fn judged<'a>(
 {
     let default = default_for(reading.default, certificate);
     let whole = whole_of(alloc, netlist, default, &reading.outputs)?;
+    let Source { circuit, outputs } = whole;
     let said = Saying {
         told,
         default: reading.default,
-        outputs: listed(&whole.outputs),
+        outputs,
     };
-    Ok(verdict_of_whole(alloc, whole.circuit, said, certificate)?)
+    Ok(verdict_of_whole(alloc, circuit, &said, certificate)?)
 }
 
 /// Whether a fault says that memory ran out.
@@ -81,15 +83,15 @@ fn is_memory(fault: &CheckFault<'_>) -> bool
     }
 }
 
-/// What is told of a certificate's text that spells none: first the fault of the netlist's, if there
-/// is one.
+/// What is told of a certificate's text that spells none: first the fault of the netlist's, if
+/// there is one.
 fn unread<'a>(
     alloc: Global,
     netlist: &'a [u8],
     reading: &Reading<'_>,
     fault: CheckFault<'a>,
 ) -> CheckFault<'a>
-    ensures { (text : List ℕ) → IsCertificateFault text fault → IsCheckFault netlist.now reading.now text result }
+    ensures { (text : List ℕ) → IsCertificateFault text fault.entry → IsCheckFault netlist.now reading.now text result }
 {
     if is_memory(&fault) {
         return fault;
@@ -101,6 +103,7 @@ fn unread<'a>(
 }
 
 /// The verdict on the certificate that a text spells, for a netlist's text.
+#[tactic(auto, using(crate::proofs::Texts::few_lines))]
 fn verdict_of_texts<'a>(
     alloc: Global,
     netlist: &'a [u8],
@@ -130,8 +133,8 @@ fn verdict_of_texts<'a>(
 ///
 /// # Errors
 ///
-/// The first that is there of a fault of the netlist's text, an output that is not there, a loop and
-/// a fault of the certificate's text. `OutOfMemory` where a growth was refused.
+/// The first that is there of a fault of the netlist's text, an output that is not there, a loop
+/// and a fault of the certificate's text. `OutOfMemory` where a growth was refused.
 pub fn check_told<'a>(
     alloc: Global,
     netlist: &'a [u8],

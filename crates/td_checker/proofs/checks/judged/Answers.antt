@@ -1,7 +1,5 @@
-use Rattle.std.proofs.Common.{subst, sym}
 use Rattle.std.proofs.lemmas.Result.{err_from_is_err_and}
-use Rattle.td_checker.specs.Checks.{default_for, with_default, said_by}
-use Rattle.td_checker.specs.Verdicts.{IsVerdictOfWhole}
+use Rattle.td_checker.specs.Checks.{default_for, with_default}
 use Rattle.td_checker.proofs.Texts.{source_fault, tells_truth_of}
 use Rattle.td_checker.proofs.checks.judged.Goals as goal
 
@@ -19,11 +17,11 @@ returns-clause-verdict c = record {
   acyclic = c.in_ok-whole.ensures.acyclic;
   outputs = _;
   asked = c.in_ok-whole.ensures.outputs;
-  is = rw c.listed.ensures at c.in_ok-verdict_of_whole.ensures;
+  is = c.in_ok-verdict_of_whole.ensures;
 }
 
 pub returns-clause-truth : goal.returns-clause-truth
 returns-clause-truth c =
-    tells_truth_of c.args.netlist.now c.args.reading.now c.args.told c.args.certificate.now c.in_ok-verdict_of_whole.verdict c.in_ok-whole.whole.circuit.netlist _
+    tells_truth_of c.args.netlist.now c.args.reading.now c.args.told c.args.certificate.now c.in_ok-verdict_of_whole.field-0 c.in_ok-whole.whole.circuit.netlist _
     (rw c.default_for-default.ensures at c.in_ok-whole.ensures.means) c.in_ok-whole.ensures.acyclic c.in_ok-whole.ensures.formed c.in_ok-whole.ensures.outputs
-    c.requires.spelled (rw c.listed.ensures at c.in_ok-verdict_of_whole.ensures)
+    c.requires.spelled c.in_ok-verdict_of_whole.ensures

@@ -6,10 +6,10 @@ use Rattle.td_checker.proofs.comparing.verdict_of_whole.Goals as goal
 pub returns-in-Some : goal.returns-in-Some
 returns-in-Some c =
     IfOk-weaker c.verdict_on.result _ _
-    (λ v is. of_asked (said_of c.args.said) c.args.circuit.netlist c.in-Some.asked.netlist c.args.certificate.now _ v c.outputs_for-numbers.ensures
-    c.in-Some.ensures.some is)
+    (λ v is. of_asked (said_of c.args.said.now) c.args.circuit.netlist c.in-Some.asked.netlist c.args.certificate.now _ v c.outputs_for-numbers.ensures
+    (rw c.in-Some.is at c.in_ok-found.ensures.some) is)
     c.verdict_on.ensures
 
 pub returns-in-None : goal.returns-in-None
 returns-in-None c =
-    of_other (said_of c.args.said) c.args.circuit.netlist c.args.certificate.now _ c.outputs_for-numbers.ensures c.in-None.ensures.none
+    of_other (said_of c.args.said.now) c.args.circuit.netlist c.args.certificate.now _ c.outputs_for-numbers.ensures (rw c.in-None.is at c.in_ok-found.ensures.none)
