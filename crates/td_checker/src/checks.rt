@@ -83,8 +83,8 @@ fn is_memory(fault: &CheckFault<'_>) -> bool
     }
 }
 
-/// What is told of a certificate's text that spells none: first the fault of the netlist's, if there
-/// is one.
+/// What is told of a certificate's text that spells none: first the fault of the netlist's, if
+/// there is one.
 fn unread<'a>(
     alloc: Global,
     netlist: &'a [u8],
@@ -133,8 +133,8 @@ fn verdict_of_texts<'a>(
 ///
 /// # Errors
 ///
-/// The first that is there of a fault of the netlist's text, an output that is not there, a loop and
-/// a fault of the certificate's text. `OutOfMemory` where a growth was refused.
+/// The first that is there of a fault of the netlist's text, an output that is not there, a loop
+/// and a fault of the certificate's text. `OutOfMemory` where a growth was refused.
 pub fn check_told<'a>(
     alloc: Global,
     netlist: &'a [u8],

@@ -17,7 +17,8 @@ use td_reading::Told;
 use td_source::{are_outputs, asked_of};
 
 /// What the checker is told of how a netlist is read: the delay of gates that state none, the
-/// numbers of the outputs that are asked about, none where all are, and which of these are compared.
+/// numbers of the outputs that are asked about, none where all are, and which of these are
+/// compared.
 #[derive(Drop)]
 pub(crate) struct Saying {
     pub told: Told,
@@ -95,7 +96,8 @@ fn verdict_at(
     verdict_of_lines(alloc, &circuit, certificate)
 }
 
-/// The verdict on a certificate that has a text within the limit, of the circuit that it asks about.
+/// The verdict on a certificate that has a text within the limit, of the circuit that it asks
+/// about.
 #[tactic(auto, using(crate::proofs::Reported::with_told))]
 fn verdict_on(
     alloc: Global,
@@ -119,8 +121,8 @@ fn verdict_on(
     }
 }
 
-/// The circuit with the outputs of these numbers alone, or all of its outputs. None where the numbers
-/// aren't those of outputs, rising. The error is out of memory.
+/// The circuit with the outputs of these numbers alone, or all of its outputs. None where the
+/// numbers aren't those of outputs, rising. The error is out of memory.
 fn circuit_for(
     alloc: Global,
     circuit: Circuit,
@@ -162,7 +164,8 @@ fn outputs_for<'a>(said: &'a Saying, certificate: &'a Certificate) -> Option<&'a
     }
 }
 
-/// The verdict on a certificate that has a text within the limit, of the circuit of a whole netlist.
+/// The verdict on a certificate that has a text within the limit, of the circuit of a whole
+/// netlist.
 pub(crate) fn verdict_of_whole<'a>(
     alloc: Global,
     circuit: Circuit,
