@@ -1,5 +1,5 @@
 -- Parts that texts tell, and what they are joined into.
-use Rattle.std.proofs.Common.{◌≡◌, ◌∙◌, ◌≤◌, ℕ, Bool, true, List, [], length, take, refl, sym, ap, subst, inl, inr, arith, append-nil}
+use Rattle.std.proofs.Common.{◌≡◌, ◌∙◌, ◌≤◌, ℕ, Bool, true, List, [], length, take, refl, sym, ap, subst, inl, inr, arith}
 use Rattle.std.specs.Prelude.{Option, Some, None, All}
 use Rattle.std.specs.Borrow.{Bor}
 use Rattle.std.proofs.lemmas.List.Elements.{All-from_recursion}
@@ -7,7 +7,6 @@ use Rattle.td_reading.specs.declared.reading.Reading.{Reading}
 use Rattle.td_nets.specs.Netlist.{Netlist}
 use Rattle.td_nets.specs.WellFormed.{IsWellFormed}
 use Rattle.td_source.specs.Reads.{HasCircuit}
-use Rattle.td_source.proofs.Naming.{reads_one}
 use Rattle.td_domain.specs.declared.cubes.Trit.{Trit}
 use Rattle.td_domain.specs.Admits.{Admitted}
 use Rattle.td_circuit.specs.Settings.{Setting, AreMoments}
@@ -20,10 +19,10 @@ use Rattle.td_certificate.specs.Accepts.{Accepts, setting_of, IsClaimed}
 use Rattle.td_certificate.specs.Faults.{IsFault}
 use Rattle.td_certificate.specs.Spelling.{HasSpelling, latest}
 use Rattle.td_certificate.proofs.Acceptance.{accepted_is_true}
-use Rattle.td_certificate.proofs.Texts.{spells_once}
 use Rattle.td_checker.specs.declared.verdict.CheckFault.{CheckFault}
 use Rattle.td_checker.specs.declared.verdict.CheckFault.TheVariants as check
 use Rattle.td_checker.specs.Checks.{IsCheckFault}
+use Rattle.td_checker.proofs.Texts.{accepted_read}
 use Rattle.td_join.specs.Joining.{IsJoined, IsClosedClaim}
 use Rattle.td_join.specs.Faults.{IsJoinFault}
 use Rattle.td_join.specs.declared.fault.JoinFault.{JoinFault}
@@ -69,11 +68,7 @@ module _ (text : List ℕ) (reading : Reading) (netlist : Netlist) (circuit : Ha
 
   -- the netlist accepts a part whose verdict is so
   part_accepted : (spelled : List ℕ) (part : Certificate) → TellsPart text reading netlist true spelled part → Accepts netlist part
-  part_accepted spelled part tells =
-      let have = tells.accepted refl in
-      let same_netlist : have.netlist ≡ netlist = reads_one text reading have.netlist netlist have.circuit.reads circuit.reads in
-      let same_part : have.certificate ≡ part = (spells_once have.certificate part spelled spelled [] have.spells tells.spells (sym (append-nil spelled))).0 in
-      subst (λ (c : Certificate). Accepts netlist c) same_part (subst (λ (n : Netlist). Accepts n have.certificate) same_netlist have.is.1)
+  part_accepted spelled part tells = accepted_read text reading spelled netlist part circuit.reads tells.spells (tells.accepted refl)
 
   parts_accepted : (names texts : List (List ℕ)) (parts : List Certificate) → AreParts text reading netlist true names texts parts
       → All (Accepts netlist) parts
