@@ -28,14 +28,24 @@ true_found problem budget (answer.Between low high pair nodes short) is =
 
 pub unanswered : (search : Search) (problem : Problem) (is_timed : Bool) (reason : WorstFault) → is_timed ≡ is_some search.effort.seconds
     → IsWorstFault is_timed problem reason → IsUnanswered search problem.admit (refusal.Search reason)
-unanswered search problem is_timed (fault.Search failed.NoPair) timed none = λ pair admitted. none (pair, admitted, admitted.pinned)
-unanswered search problem is_timed (fault.Search failed.OutOfMemory) timed none = tt
-unanswered search problem is_timed fault.NoTimer timed none = sym timed ∙ none
+unanswered asked_by problem is_timed (fault.Search failed.NoPair) timed none = λ pair admitted. none (pair, admitted, admitted.pinned)
+unanswered asked_by problem is_timed (fault.Search failed.OutOfMemory) timed none = tt
+unanswered asked_by problem is_timed fault.NoTimer timed none = sym timed ∙ none
 
 -- where the words ask about these pairs, and the search for an output has no answer
 pub refused_each : (text : List ℕ) (reading : Reading) (search : Search) (setting : Setting) (admit : Admitted) (reason : Refusal)
     → IsAsked text reading search.question setting admit → IsUnanswered search admit reason → IsRefusedSearch text reading search reason
-refused_each text reading search setting admit refusal.OutOfMemory asked is = tt
-refused_each text reading search setting admit (refusal.Search (fault.Search failed.NoPair)) asked is = (setting, admit, asked, is)
-refused_each text reading search setting admit (refusal.Search (fault.Search failed.OutOfMemory)) asked is = tt
-refused_each text reading search setting admit (refusal.Search fault.NoTimer) asked is = is
+refused_each text reading asked_by setting admit refusal.OutOfMemory asked is = tt
+refused_each text reading asked_by setting admit (refusal.Search (fault.Search failed.NoPair)) asked is = (setting, admit, asked, is)
+refused_each text reading asked_by setting admit (refusal.Search (fault.Search failed.OutOfMemory)) asked is = tt
+refused_each text reading asked_by setting admit (refusal.Search fault.NoTimer) asked is = is
+refused_each text reading asked_by setting admit (refusal.Unread _) asked is = elim is [ ]
+refused_each text reading asked_by setting admit (refusal.Question _) asked is = elim is [ ]
+refused_each text reading asked_by setting admit (refusal.NoOutput _) asked is = elim is [ ]
+refused_each text reading asked_by setting admit (refusal.Check _) asked is = elim is [ ]
+refused_each text reading asked_by setting admit (refusal.BadPart _ _) asked is = elim is [ ]
+refused_each text reading asked_by setting admit (refusal.Unaccepted _ _) asked is = elim is [ ]
+refused_each text reading asked_by setting admit (refusal.OtherCircuit _) asked is = elim is [ ]
+refused_each text reading asked_by setting admit (refusal.NotJoined _) asked is = elim is [ ]
+refused_each text reading asked_by setting admit (refusal.OtherQuestion _) asked is = elim is [ ]
+refused_each text reading asked_by setting admit refusal.TooLong asked is = elim is [ ]

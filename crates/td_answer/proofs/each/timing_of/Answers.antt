@@ -7,10 +7,10 @@ use Rattle.td_answer.proofs.EachOne.{unanswered, true_found}
 use Rattle.td_answer.proofs.each.timing_of.Goals as goal
 
 pub edges_of-requires : goal.edges_of-requires
-edges_of-requires g c = rw c.pins.ensures.pins (c.pins.ensures.fit ∙ ap (λ n. 2 * n) c.requires)
+edges_of-requires g c = rw c.pins.ensures.pins (c.pins.ensures.fit ∙ ap (λ n. 2 * n) c.requires.held)
 
 pub worst-requires-clause-held : goal.worst-requires-clause-held
-worst-requires-clause-held g c κs within = c.requires
+worst-requires-clause-held g c κs within = c.requires.held
 
 pub returns-in_err-answer-clause-refusal : goal.returns-in_err-answer-clause-refusal
 returns-in_err-answer-clause-refusal g c =
