@@ -284,7 +284,7 @@ def work(tested):
 
 
 def shares(tested, _cut):
-    tested.require("cut", 0.6)
+    tested.require("cut", 0.4)
     tested.require("of another question", 0.3)
 
 
