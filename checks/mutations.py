@@ -472,7 +472,7 @@ def work(tested):
 def shares(tested, _cut):
     for name in STATUSES:
         # `join` refuses parts that don't fill the question, which mutated words often narrow.
-        tested.require(f"{name}: status 0", 0.05 if name == "join" else 0.15, of=name)
+        tested.require(f"{name}: status 0", 0.05 if name == "join" else 0.1, of=name)
     tested.require("worst: status 3", 0.01, of="worst")
     tested.require("check: status 4", 0.005, of="check")
     tested.require("join: status 4", 0.05, of="join")
