@@ -9,7 +9,6 @@ byte for byte. The status has to be the greatest of the searches, and where one 
 its line and its status stand in place of the table. With `--json` it has to be the same table.
 """
 
-import json
 import re
 import sys
 
@@ -77,7 +76,7 @@ def work(tested):
         if tuple(done) != wanted:
             tested.fault(f"{' '.join(words)}: {tuple(done)}, not {wanted}\n{text}")
         again = tested.run("worst", "t.v", "--each", "--json", *words)
-        form = json.loads(again.out, object_pairs_hook=list) if again.out else []
+        form = reports.lines_of_json(again.out) if again.out else []
         if (again.status, form, again.err) != (wanted[0], reports.as_json(wanted[1]), wanted[2]):
             tested.fault(f"{' '.join(words)}: as JSON {tuple(again)}\n{text}")
         kinds = {0: "all exact", 3: "some cut short"}

@@ -211,8 +211,14 @@ class Limits:
             "t.v",
             "c",
         )
+        about = f"first {zeros}\nsecond {ones}\nhold {'.' * 64}\nflips 64\n"
         self.report(
-            "joined alone", f"exact {time}\nfrom {zeros}\nto {ones}\nnodes 1\n", "join", "t.v", "c"
+            "joined alone",
+            f"exact {time}\nfrom {zeros}\nto {ones}\nnodes 1\n{about}",
+            "join",
+            "t.v",
+            "c",
+            *pins,
         )
         self.expect(
             "its part", (0, " ".join(pins) + "\n", ""), "parts", "t.v", "--parts", "2", *pins

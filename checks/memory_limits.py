@@ -34,7 +34,7 @@ COMMANDS = [
     ["worst", "mult_8.v", *MULT, "--workers", "1", "--cert", "out.cert"],
     ["check", "mult_8.v", "mult_8.cert"],
     ["parts", "mult_8.v", "--parts", "40"],
-    ["join", "mult_8.v", "mult_8_0.cert", "mult_8_1.cert", "--check", "--cert", "out.cert"],
+    ["join", "mult_8.v", "mult_8_0.cert", "mult_8_1.cert", *MULT, "--cert", "out.cert"],
     ["info", "mult_8.v"],
     ["sim", "great.v", ZEROS, ONES],
     ["path", "great.v", ZEROS, ONES],
@@ -42,7 +42,7 @@ COMMANDS = [
     ["worst", "great.v", "--budget", "3", "--workers", "1"],
     ["check", "great.v", "great.cert"],
     ["parts", "great.v", "--parts", "2", *GREAT],
-    ["join", "great.v", "great.cert", "--cert", "out.cert"],
+    ["join", "great.v", "great.cert", *GREAT, "--no-check", "--cert", "out.cert"],
     ["info", "great.v"],
 ]
 

@@ -428,6 +428,7 @@ class Setup:
             if max(self.steps) > 1
             else []
         )
+        self.told = opinion.Told(*self.steps) if self.defaults else opinion.Told()
         self.circuit = read_or_none(text, self.steps)
 
     def read(self):
@@ -484,7 +485,7 @@ def compare_check(setup, certificate, origin):
     setup.compare(
         ["check", "t.v", "c"],
         opinion.told(
-            lambda: opinion.check(setup.circuit or setup.read(), setup.steps, None, certificate)
+            lambda: opinion.check(setup.netlist, setup.told, certificate)
         ),
         kinds_of,
     )

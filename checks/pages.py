@@ -28,7 +28,7 @@ import re
 import shutil
 import sys
 
-from lib import check, circuits, places, running
+from lib import check, circuits, places, reports, running
 from lib.netlists import INVERTER, LOST
 
 import contracts as listing
@@ -474,7 +474,7 @@ class Pages:
         shown = block.splitlines()
         if shown[0].startswith("between "):
             self.others([command for command in OTHERS[self.name] if "--budget" in command])
-        prints = self.last.splitlines()
+        prints = reports.as_proved(self.last).splitlines()
         body = prints[2:] if prints[:1] and prints[0].startswith("unit ") else prints
         self.tested.expect(
             f"{self.name}: {shown} is what is printed, {prints}", True, shown in (prints, body)

@@ -5,9 +5,10 @@ Each case is a random circuit, some with pins, held inputs, few flips and moment
 question is cut by `parts` into 2 to 40 parts with either strategy; each part is searched by
 `worst`, and the certificates are joined by `join` in a random order. Each admitted pair lies in the
 pins of exactly one part (by looking at all pairs, where they are few); each part has one; there are
-no more parts than were asked for; `join` reports the time of the whole search; `check` accepts what
-it writes, which is about the question that was asked. A part left out, one taken twice, one of
-another question and one with another time are refused, or reported by `check`. One more case is
+no more parts than were asked for; `join`, with a check or without, reports the time of the whole
+search, and what it is about as `check` does; `check` accepts what it writes, which is about the
+question that was asked. A part left out, one taken twice, one of another question, one with
+another time and words of another question are refused. One more case is
 examples/many_machines.sh without GNU parallel, and one with it, where it is there: on
 examples/mult_8.v, and on examples/adder_8.v with a budget that cuts parts short, where the worst
 delay has to lie between the two figures that it gives; and on examples/c17.v with each option of
@@ -22,17 +23,13 @@ import sys
 
 from lib import check, places, reports, running
 from lib.netlists import random_netlist
-from lib.questions import admitted, fits, random_question, word
+from lib.questions import ASKED, admitted, fits, random_question, word
 
 CASES = 120
 LEAD = ["--strategy", "lead"]
 # What cuts the parts of the adder short.
 SHORT = ["--strategy", "least", "--budget", "50"]
 SCRIPT = os.path.join(places.EXAMPLES, "many_machines.sh")
-# What may be asked of c17.v, each with its options.
-ASKED = ["--output N22", "--pin N1=1", "--hold-input N2", "--at N3=4", "--at 1,0,2,0,0", "--flips 1"]
-ASKED += ["--default-rise 2", "--default-fall 3", "--first 1....", "--second .0...", "--hold =...."]
-ASKED += ["--output N23 --pin N2=0 --default-rise 3 --strategy lead"]
 
 
 class Question:
@@ -40,13 +37,6 @@ class Question:
 
     def __init__(self, tested, inputs, words):
         self.tested, self.inputs, self.words = tested, inputs, words
-        free = "." * inputs
-        self.pins = [
-            "--first",
-            word(words, "--first", free),
-            "--second",
-            word(words, "--second", free),
-        ]
 
     def run(self, *words):
         return self.tested.run(*words)
@@ -99,28 +89,45 @@ def wrong_join(asked, lines):
         return f"the whole search: {whole.status} {whole.out}{whole.err}"
     names = [f"p{place}" for place in range(len(lines))]
     asked.tested.random.shuffle(names)
-    done = asked.run("join", "t.v", *names, *asked.pins, "--cert", "joined")
-    if done.status != 0 or reports.values_of(done.out).get("exact") != time:
+    how = asked.tested.random.choice([[], ["--no-check"]])
+    done = asked.run("join", "t.v", *names, *asked.words, *how, "--cert", "joined")
+    key = "unchecked" if how else "exact"
+    if done.status != 0 or reports.values_of(done.out).get(key) != time:
         return (
             f"join: {done.status} {done.out}{done.err}where the whole search reports\n{whole.out}"
         )
     checked, of_whole = asked.run("check", "t.v", "joined"), asked.run("check", "t.v", "whole")
     if checked.status != 0 or str(reports.accepted_time(checked.out)) != time:
         return f"check: {checked.out}{checked.err}"
+    told = asked.tested.read("joined").decode()
+    if not done.out.endswith(checked.out.split("\n", 1)[1]) or "\nnodes " not in done.out:
+        return f"join says {done.out} of what check says {checked.out} of: {told}"
     for key in ("first", "second", "hold", "flips", "at"):
         these, those = (reports.values_of(report.out).get(key) for report in (checked, of_whole))
         if None not in (these, those) and these != those:
             return f"joined is about {key} {these}, searched about {those}"
-    return wrong_count(asked, names)
+    return wrong_count(asked, names) or wrong_question(asked, names)
 
 
 def wrong_count(asked, names):
     """What is wrong where a part is left out, or taken twice."""
     if len(names) > 1:
-        if asked.run("join", "t.v", *names[1:], *asked.pins, "--cert", "less").status != 4:
+        if asked.run("join", "t.v", *names[1:], *asked.words, "--cert", "less").status != 4:
             return "joined with a part left out"
-        if asked.run("join", "t.v", *names, names[0], *asked.pins, "--cert", "more").status != 4:
+        if asked.run("join", "t.v", *names, names[0], *asked.words, "--cert", "more").status != 4:
             return "joined with a part taken twice"
+    return None
+
+
+def wrong_question(asked, names):
+    """What is wrong where the words ask another question, by moments, than the parts answer."""
+    words = list(asked.words)
+    if "--at" in words:
+        del words[words.index("--at") : words.index("--at") + 2]
+    moments = ",".join(["4321"] * asked.inputs)
+    done = asked.run("join", "t.v", *names, *words, "--at", moments, "--cert", "less")
+    if done.status != 4 or done.err != "tdelay: parts of another question: other input times\n":
+        return f"joined with other moments: {done.out}{done.err}"
     return None
 
 
@@ -135,7 +142,7 @@ def mixed(asked, lines):
     if done.status != 0 or not names:
         return None
     asked.tested.has_kind("of another question")
-    joined = asked.run("join", "t.v", "mixed", *names, *asked.pins, "--cert", "other")
+    joined = asked.run("join", "t.v", "mixed", *names, *asked.words, "--cert", "other")
     if joined.status == 0 or "other flips" not in joined.err:
         return f"joined with a part of another question: {joined.out}{joined.err}"
     return None
@@ -150,13 +157,14 @@ def forged(asked, lines):
         place
     ] = f"time {int(text[place].split()[1]) + 1_000_001 + asked.tested.random.randrange(3)}"
     asked.tested.write("forged", "\n".join(text) + "\n")
-    done = asked.run("join", "t.v", "forged", *names[1:], *asked.pins, "--cert", "other")
-    if (
-        done.status not in (0, 4)
-        or done.status == 0
-        and asked.run("check", "t.v", "other").status != 4
-    ):
+    names[0] = "forged"
+    done = asked.run("join", "t.v", *names, *asked.words, "--cert", "other")
+    if done.status != 4 or not done.err.startswith("tdelay: forged: refused "):
         return f"a forged time: {done.status} {done.out}{done.err}"
+    done = asked.run("join", "t.v", "--no-check", *names, *asked.words, "--cert", "other")
+    is_open = done.status == 4 and done.err == "tdelay: forged: open\n"
+    if not is_open and (done.status != 0 or asked.run("check", "t.v", "other").status != 4):
+        return f"a forged time, unchecked: {done.status} {done.out}{done.err}"
     return None
 
 
@@ -276,7 +284,7 @@ def work(tested):
 
 
 def shares(tested, _cut):
-    tested.require("cut", 0.6)
+    tested.require("cut", 0.4)
     tested.require("of another question", 0.3)
 
 

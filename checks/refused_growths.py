@@ -90,11 +90,12 @@ OTHERS = [
     ["check", "slow.v", "slow.cert"],
     ["check", "met.v", "few.cert"],
     ["check", "met.v", "refuted.cert"],
-    ["join", "met.v", "refuted.cert", "--cert", "out.cert"],
+    ["join", "met.v", "refuted.cert", "--no-check", "--cert", "out.cert"],
     ["parts", "met.v", "--parts", "5"],
     ["parts", "met.v", "--parts", "5", "--strategy", "lead"],
-    ["join", "met.v", "zero.cert", "one.cert", "--cert", "out.cert"],
-    ["join", "met.v", "zero.cert", "one.cert", "--check"],
+    ["join", "met.v", "zero.cert", "one.cert", "--no-check", "--cert", "out.cert"],
+    ["join", "met.v", "zero.cert", "one.cert"],
+    ["join", "met.v", "few.cert", "--flips", "1", "--at", "0,2"],
     ["info", "c17.v"],
 ]
 

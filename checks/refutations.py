@@ -39,8 +39,9 @@ CHANGES = [
     ("\nhigh 3\n", "\nhigh 2\n", "refused 4 LeafAboveTime line 27"),
     ("\nhigh 3\n", "\nhigh 5\n", "accepted between 3 5"),
     ("\ntime 3\n", "\ntime 4\n", "refused 2 PairTime"),
-    ("\ndefault 1 1\n", "\ndefault 1 2\n", "refused 11 OtherQuestion line 3"),
-    ("\noutput all\n", "\noutput 0\n", "refused 11 OtherQuestion line 4"),
+    ("\ndefault 1 1\n", "\ndefault 1 2\n", "accepted 3"),
+    ("\noutput all\n", "\noutput 0\n", "accepted 3"),
+    ("\noutput all\n", "\noutput 1\n", "refused 7 OtherCircuit"),
     ("\nkeep none\n", "\nkeep 7 .1\n", "refused 8 PairNotAdmitted"),
     ("\nkeep none\n", "\nkeep 3 ==\n", "refused 8 PairNotAdmitted"),
     ("\nkeep none\n", "\nkeep 7 .0 7 ==\n", "accepted 3"),
@@ -217,7 +218,7 @@ def compare(setup, lines, origin, wanted=None):
     tested.write("c", certificate)
     theirs = setup.program("check", "t.v", "c")
     ours = opinion.told(
-        lambda: opinion.check(setup.circuit, setup.steps, None, certificate)
+        lambda: opinion.check(setup.netlist, opinion.Told(), certificate)
     )
     at = re.match(r"refused .* line (\d+)\n", theirs[0])
     line = int(at[1]) if at else 0

@@ -9,6 +9,9 @@ and accepted by `PROGRAM check`, with the worst delay of the search in one piece
 submits no part. Then the same with an array of at most 6 tasks, as where there are more parts than
 a site's MaxArraySize.
 
+Before all that, submit.sh runs with each option of `worst` that says what is asked, of
+examples/c17.v, with a stand-in for Slurm that runs each job at once.
+
 The YAML of docs/MANY-MACHINES.md has to parse, and the command in it has to search its part under
 `sh`. Where Slurm, munge or a reader of YAML isn't installed, it says so.
 """
@@ -25,7 +28,8 @@ import sys
 import time
 
 from bridging.designs import exact
-from lib import check, places
+from lib import check, places, reports
+from lib.questions import ASKED
 from lib.running import run
 
 NETLIST = os.path.join(places.TOP, "examples", "mult_8.v")
@@ -37,6 +41,25 @@ os.environ["PATH"] += ":/usr/sbin:/sbin"
 NEEDS = ("munged", "mungekey", "slurmctld", "slurmd", "sbatch", "squeue", "scontrol")
 # The longest that jobs may take, in seconds.
 LONGEST = 240
+
+# Stand-ins for two commands of Slurm: a job's tasks run one after another, at once.
+STAND_INS = {
+    "scontrol": "#!/bin/sh\necho 'MaxArraySize = 3'\n",
+    "sbatch": """#!/bin/sh
+for word; do
+    case $word in
+    --array=*) array=${word#--array=} ;;
+    --*) ;;
+    *) job=$word ;;
+    esac
+done
+for place in $(echo "${array%%%*}" | tr , ' '); do
+    SLURM_ARRAY_TASK_ID=$place bash "$job" > part.log 2>&1
+done
+[ -n "$array" ] || bash "$job" > join.log 2>&1
+echo 1
+""",
+}
 
 CONFIGURATION = """ClusterName=tdelay
 SlurmctldHost={host}(127.0.0.1)
@@ -243,7 +266,7 @@ def arrays(tested, largest, short, budget):
         expect(
             tested,
             "join.log has the worst delay",
-            f"exact {whole}\n" in read(work, "join.log"),
+            f"unchecked {whole}\n" in read(work, "join.log"),
             work,
         )
         expect(
@@ -264,6 +287,28 @@ def arrays(tested, largest, short, budget):
             other.status == 1 and "another question" in other.err,
             work,
         )
+
+
+def asked(tested):
+    """Cases: submit.sh with each option that says what is asked, and with a stand-in for Slurm."""
+    folder = os.path.join(tested.folder, "stand-ins")
+    os.mkdir(folder)
+    for name, text in STAND_INS.items():
+        with open(os.path.join(folder, name), "w", encoding="ascii") as file:
+            file.write(text)
+        os.chmod(os.path.join(folder, name), 0o755)
+    environment = {**os.environ, "PATH": f"{folder}:{os.environ['PATH']}"}
+    environment["TDELAY"] = tested.program
+    netlist = places.example("c17.v")
+    for place, words in enumerate(ASKED):
+        work = os.path.join(tested.folder, f"asked-{place}")
+        os.mkdir(work)
+        ended = run([SUBMIT, netlist, "4", *words.split()], work, env=environment)
+        whole = tested.run("worst", netlist, *words.split())
+        time = reports.values_of(whole.out).get("exact")
+        log = read(work, "join.log")
+        ends = ended.status, f"accepted {time}" in log.splitlines()
+        tested.expect(f"submit.sh with {words}: {ended.err}{log}", (0, True), ends, "asked")
 
 
 def yaml_reader():
@@ -334,6 +379,7 @@ def work(tested):
     if exact(tested, places.example("c17.v")) != 3:
         tested.fault("the worst delay of examples/c17.v isn't 3")
         return
+    asked(tested)
     kubernetes(tested)
     lacking = [name for name in NEEDS if not shutil.which(name)]
     if lacking:
@@ -351,7 +397,4 @@ def shares(tested, cut):
 
 
 if __name__ == "__main__":
-    if not yaml_reader() and not all(map(shutil.which, NEEDS)):
-        print("skipped: neither Slurm and munge (slurm-wlm, munge) nor PyYAML is there")
-        sys.exit(check.SKIPPED)
     sys.exit(check.main(work, __doc__, shares=shares))

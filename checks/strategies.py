@@ -35,9 +35,8 @@ def fault_in(tested, circuit, words, way, wanted):
     checked = tested.run("check", "t.v", "c")
     if reports.accepted_time(checked.out) != wanted:
         return f"the certificate: {checked.out}{checked.err}"
-    told = second_opinion.Terms(second_opinion.Delays(1, 1), None)
     certificate = second_opinion.read_certificate(tested.read("c"))
-    judged = second_opinion.verdict(circuit, told, certificate)
+    judged = second_opinion.verdict(circuit, second_opinion.Told(), None, certificate)
     if judged != (second_opinion.Verdict.Accepted, None):
         return f"the certificate, by the second opinion: {judged}"
     return None

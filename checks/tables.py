@@ -22,7 +22,7 @@ LIES = {
     # One more, where a search is exact.
     "more": """$R "$@" | awk '$1 == "exact" { $2 += 1 } 1'; exit ${PIPESTATUS[0]}""",
     "later": """$R "$@" | awk '$1 == "time" { $2 += 1 } 1'; exit ${PIPESTATUS[0]}""",
-    "joins": 'if [ "$1" = join ]; then $R "$@" | sed s/^exact.20/exact.21/; else exec $R "$@"; fi',
+    "joins": 'if [ "$1" = join ]; then $R "$@" | sed s/^unchecked.20/unchecked.21/; else exec $R "$@"; fi',
     "drops": 'if [ "$1" = parts ]; then $R "$@" | sed \\$d; else exec $R "$@"; fi',
     "refuses": 'if [ "$1" = check ]; then echo refused 1 WrongTime; exit 4; fi; exec $R "$@"',
     "sleeps": 'sleep 1; exec $R "$@"',

@@ -16,7 +16,6 @@ with `--quiet`, prints nothing on standard output then, and ends as without it: 
 """
 
 import glob
-import json
 import os
 import re
 import sys
@@ -44,26 +43,20 @@ def cases(text):
 
 
 def printed(command, folder, environment):
-    """Runs a command, and gives how it ended and the lines that a transcript has for it."""
+    """Runs a command, and gives how it ended and the lines that a transcript has for it. They are
+    those of a proved program, whatever this one says of itself."""
     ran = running.run_bytes(["bash", "-c", command], folder, seconds=LONGEST, env=environment)
-    lines = (ran.out + ran.err).decode(errors="backslashreplace").splitlines()
+    text = (ran.out + ran.err).decode(errors="backslashreplace")
+    lines = reports.as_proved(text).splitlines()
     return ran, lines + [f"[{ran.status}]"] * (ran.status != 0)
-
-
-def pairs_in(text):
-    """The pairs of a JSON object on one line, None where the text is none."""
-    try:
-        pairs = json.loads(text, object_pairs_hook=list)
-    except ValueError:
-        return None
-    return pairs if text.count("\n") == 1 and text.endswith("\n") else None
 
 
 def try_json(tested, command, ran, folder, environment):
     """A case: the report of a command that ran, as JSON."""
     again, _ = printed(f"{command} --json", folder, environment)
     wanted = (ran.status, ran.err, reports.as_json(ran.out.decode()))
-    got = (again.status, again.err, pairs_in(again.out.decode(errors="replace")))
+    said = reports.lines_of_json(again.out.decode(errors="replace"))
+    got = (again.status, again.err, said)
     tested.expect(f"{command} --json", wanted, got, "as JSON")
 
 

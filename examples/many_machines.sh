@@ -1,12 +1,12 @@
 #!/usr/bin/env bash
 # many_machines.sh FILE PARTS OUT [OPTION VALUE]..: cuts the search of FILE into PARTS parts,
 # searches them side by side, and joins their certificates into OUT. The options are those of
-# `worst` that have a value, but for --cert and --vcd.
+# `worst` that have a value, but for --cert and --vcd, as `--flips 2` or `--flips=2`.
 #
 # Uses GNU parallel where it is there, else xargs -P, with as many jobs as JOBS says, or as there
-# are processors. TDELAY is the program (./tdelay where left out). Prints what `join` prints, and
-# what `check` says of it, whose status is this script's. Where a part was cut short it prints
-# `between LOW HIGH`, the greatest of the parts, and ends with status 3.
+# are processors. TDELAY is the program (./tdelay where left out). Prints what `join` prints, which
+# checks no part here, and what `check` says of the whole, whose status is this script's. If a part
+# was cut short it prints `between LOW HIGH`, the greatest of the parts, and ends with status 3.
 set -euo pipefail
 
 [ $# -ge 3 ] || { sed -n '2,/^[^#]/s/^# \{0,1\}//p' "$0" >&2; exit 2; }
@@ -17,22 +17,22 @@ JOBS=${JOBS:-$(getconf _NPROCESSORS_ONLN)}
 WORK=$(mktemp -d)
 trap 'rm -rf "$WORK"' EXIT
 
-# What is asked, how it is searched, and what `join` and `check` need of both.
-ASKED=() HOW=() JOINED=() CHECKED=()
+# What is asked (`parts` gives it to each `worst`), what of it no certificate says, so that `check`
+# is told, how `parts` cuts, and how `worst` searches.
+ASKED=() READ=() CUT=() HOW=()
 while [ $# -gt 0 ]; do
+    case $1 in --*=*) set -- "${1%%=*}" "${1#*=}" "${@:2}" ;; esac
     [ $# -ge 2 ] || { echo "many_machines.sh: $1 has no value" >&2; exit 2; }
     case $1 in
-    --first | --second | --pin) ASKED+=("$1" "$2") JOINED+=("$1" "$2") ;;
-    --hold | --hold-input | --flips | --at) ASKED+=("$1" "$2") ;;
-    --output | --default-rise | --default-fall)
-        ASKED+=("$1" "$2") JOINED+=("$1" "$2") CHECKED+=("$1" "$2") ;;
-    --strategy) ASKED+=("$1" "$2") HOW+=("$1" "$2") ;;
+    --first | --second | --pin | --hold | --hold-input | --flips | --at) ASKED+=("$1" "$2") ;;
+    --output | --default-rise | --default-fall) ASKED+=("$1" "$2") READ+=("$1" "$2") ;;
+    --strategy) CUT+=("$1" "$2") HOW+=("$1" "$2") ;;
     *) HOW+=("$1" "$2") ;;
     esac
     shift 2
 done
 
-"$TDELAY" parts "$FILE" --parts "$PARTS" "${ASKED[@]}" > "$WORK/parts"
+"$TDELAY" parts "$FILE" --parts "$PARTS" "${ASKED[@]}" "${CUT[@]}" > "$WORK/parts"
 
 cat > "$WORK/part" <<'PART'
 #!/usr/bin/env bash
@@ -62,8 +62,8 @@ if grep -q '^between ' "$WORK"/*.out; then
 fi
 CERTS=()
 for part in $(seq "$COUNT"); do CERTS+=("$WORK/$part.cert"); done
-"$TDELAY" join "$FILE" "${CERTS[@]}" --cert "$OUT" "${JOINED[@]}"
+"$TDELAY" join "$FILE" "${CERTS[@]}" --no-check --cert "$OUT" "${ASKED[@]}"
 status=0
-"$TDELAY" check "$FILE" "$OUT" "${CHECKED[@]}" > "$WORK/checked" || status=$?
+"$TDELAY" check "$FILE" "$OUT" "${READ[@]}" > "$WORK/checked" || status=$?
 head -n 1 "$WORK/checked"
 exit $status

@@ -165,5 +165,5 @@ trap 'rm -rf "$room"' EXIT
 make_files
 [ ! -f "$prefix/$list" ] || remove_files
 install_files
-echo "installed $(paste -sd, "$prefix/share/tdelay/version" | sed 's/,/, /') in $prefix"
+echo "installed $(paste -sd'|' "$prefix/share/tdelay/version" | sed 's/|/, /g') in $prefix"
 case ":$PATH:" in *":$prefix/bin:"*) ;; *) echo "$prefix/bin isn't on PATH" ;; esac

@@ -41,6 +41,9 @@ Question = namedtuple("Question", "pins held flips moments keep", defaults=[()])
 # How the netlist is read that is asked about: the default delays, and the numbers of the outputs,
 # None for all.
 Terms = namedtuple("Terms", "defaults outputs")
+# What the checker is told: a rise and a fall delay, None where one is left out, and names of
+# outputs.
+Told = namedtuple("Told", "rise fall names", defaults=(None, None, ()))
 # A line of a tree; the number of a split is its position. The lines of a leaf by spans stand there
 # one by one, each but its ends with the text of its numbers.
 Line = namedtuple("Line", "letter domain number")
@@ -371,15 +374,39 @@ def first_line(certificate):
     return 3 + certificate.asked.count("\n") + of_claim
 
 
-def verdict(circuit, told, certificate):
-    """The verdict where the checker was told these terms, and its line or None."""
+def with_outputs(circuit, numbers):
+    """The circuit with the outputs of these numbers alone, or all; None where they aren't rising
+    numbers of outputs.
+    """
+    if numbers is None:
+        return circuit
+    if sorted(set(numbers)) != numbers or numbers[-1] >= len(circuit.outputs):
+        return None
+    return circuit._replace(outputs=[circuit.outputs[it] for it in numbers])
+
+
+def other_line(told, numbers, terms):
+    """The line of a text that contradicts what the checker is told, if one does."""
+    for delay, other in ((told.rise, terms.defaults.rise), (told.fall, terms.defaults.fall)):
+        if delay not in (None, other):
+            return 3
+    return 4 if numbers not in (None, terms.outputs) else None
+
+
+def verdict(circuit, told, numbers, certificate):
+    """The verdict for a whole circuit, where the checker is told this and the outputs of these
+    numbers, and its line or None.
+    """
     question, high, terms = certificate.question, certificate.high, certificate.terms
+    circuit = with_outputs(circuit, terms.outputs if terms else numbers)
+    if circuit is None:
+        return Verdict.OtherCircuit, None
     if (circuit.inputs, len(circuit.gates)) != (certificate.inputs, certificate.gates):
         return Verdict.OtherCircuit, None
     if not is_fit(circuit, question.keep):
         return Verdict.OtherCircuit, None
-    if terms and terms != told:
-        return Verdict.OtherQuestion, 3 if terms.defaults != told.defaults else 4
+    if terms and other_line(told, numbers, terms):
+        return Verdict.OtherQuestion, other_line(told, numbers, terms)
     if certificate.pair is not None:
         if not may_lie(circuit, question, certificate.pair):
             return Verdict.PairNotAdmitted, None
@@ -435,16 +462,39 @@ def claim_line(certificate):
     return f"accepted {time}" if time == high else f"accepted between {time} {high}"
 
 
-def check(circuit, defaults, output, text):
-    """`check` of a certificate's text, of all outputs or the one of a name."""
-    outputs = None
-    if output is not None:
-        outputs = [it for it, net in enumerate(circuit.outputs) if circuit.nets[net] == output][:1]
-        if not outputs:
-            raise Refusal("no output of this name", 2)
-        circuit = circuit._replace(outputs=[circuit.outputs[outputs[0]]])
-    certificate = read_certificate(text)
-    found, line = verdict(circuit, Terms(defaults, outputs), certificate)
+def numbers_of(circuit, names):
+    """The numbers of the outputs of these names, rising; None where none is named."""
+    if not names:
+        return None
+    there = {}
+    for number, net in enumerate(circuit.outputs):
+        there.setdefault(circuit.nets[net], number)
+    if any(name not in there for name in names):
+        raise Refusal("no output of this name", 2)
+    return sorted({there[name] for name in names})
+
+
+def certificate_or_fault(text):
+    """The certificate that a text spells, and why it spells none: one of them."""
+    try:
+        return read_certificate(text), None
+    except Refusal as fault:
+        return None, fault
+
+
+def check(netlist, told, text):
+    """`check` of a certificate's text for a netlist's text, where the checker is told this. What
+    is left out is as the certificate has it.
+    """
+    certificate, fault = certificate_or_fault(text)
+    defaults = Delays(told.rise or 1, told.fall or 1)
+    if certificate and certificate.terms:
+        defaults = certificate.terms.defaults
+    circuit = read_circuit(netlist, defaults)
+    numbers = numbers_of(circuit, told.names)
+    if fault:
+        raise fault
+    found, line = verdict(circuit, told, numbers, certificate)
     if found == Verdict.Accepted:
         return report([claim_line(certificate)]) + told_lines(certificate), "", 0
     place = f" line {line}" if line else ""
@@ -554,11 +604,13 @@ def command_line():
         for word in words:
             sub.add_argument(word)
         for change in ("rise", "fall"):
-            sub.add_argument(f"--default-{change}", type=delay_in, default=1, metavar="N")
+            sub.add_argument(f"--default-{change}", type=delay_in, metavar="N")
     for command in ("sim", "path"):
         commands.choices[command].add_argument("--at", metavar="M,M,..")
-    for command in ("check", "path"):
-        commands.choices[command].add_argument("--output", metavar="NAME")
+    commands.choices["path"].add_argument("--output", metavar="NAME")
+    commands.choices["check"].add_argument(
+        "--output", metavar="NAME", action="append", default=[]
+    )
     return parser
 
 
@@ -573,13 +625,15 @@ def bytes_of(name):
 
 def answer(asked):
     """What the command that is asked for answers."""
-    netlist, defaults = bytes_of(asked.FILE), Delays(asked.default_rise, asked.default_fall)
+    netlist = bytes_of(asked.FILE)
+    defaults = Delays(asked.default_rise or 1, asked.default_fall or 1)
     if asked.command == "sim":
         return sim(read_circuit(netlist, defaults), asked.FROM, asked.TO, asked.at)
     if asked.command == "path":
         return path(read_circuit(netlist, defaults), asked.FROM, asked.TO, asked.at, asked.output)
     certificate = bytes_of(asked.CERT)
-    return check(read_circuit(netlist, defaults), defaults, asked.output, certificate)
+    told_so = Told(asked.default_rise, asked.default_fall, asked.output)
+    return check(netlist, told_so, certificate)
 
 
 def main():

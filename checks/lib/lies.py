@@ -45,7 +45,7 @@ LIES = {
             "sim", edited(r"s/^last \(.*\) \([0-9]*\)$/last \1 1\2/")
         ),
     },
-    "slurm": {"a joined time that is one more": where("join", MORE.format(key="exact", by=1))},
+    "slurm": {"a joined time that is one more": where("join", MORE.format(key="unchecked", by=1))},
     "budgets": {"a time that is one less": where("worst", MORE.format(key="exact", by=-1))},
     "collisions": {"colliding names take long": SLOW},
     "devices": {"a device that fails is a bad text": FIVE + " 1; exit $status"},
@@ -94,7 +94,7 @@ LIES = {
     "swaps": {"a place of another reading": PLACED_BEFORE},
     "tables": {
         "a time that is one more": where("worst", MORE.format(key="exact", by=1)),
-        "a joined time that is one more": where("join", MORE.format(key="exact", by=1)),
+        "a joined time that is one more": where("join", MORE.format(key="unchecked", by=1)),
         "a run that ends one later": where("sim", MORE.format(key="time", by=1)),
     },
     "terminals": {

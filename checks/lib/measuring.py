@@ -48,7 +48,8 @@ class Run:
             return "did not end"
         if not self.answers:
             return f"failed: {self.said.strip()[:60] or f'status {self.status}'}"
-        return f"`{re.search('(?m)^(?:exact|between) .*$', self.report)[0]}`"
+        low, high = self.figures
+        return f"`between {low} {high}`" if self.exact is None else f"`exact {low}`"
 
     def nodes(self):
         return int(reports.values_of(self.report)["nodes"]) if self.answers else None

@@ -2,6 +2,10 @@
 
 import itertools
 
+# What `worst` may be asked of examples/c17.v: each option that says it, by itself and with others.
+ASKED = ["--output N22", "--pin N1=1", "--hold-input N2", "--at N3=4", "--at 1,0,2,0,0", "--flips 1"]
+ASKED += ["--default-rise 2", "--default-fall 3", "--first 1....", "--second .0...", "--hold =...."]
+ASKED += ["--output N23 --pin N2=0 --default-rise 3 --strategy lead", "--flips=2 --output=N22"]
 
 def random_question(rng, inputs, with_second=True):
     """Random words of `worst`, `parts` and others that say what is asked."""

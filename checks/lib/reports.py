@@ -1,8 +1,11 @@
 """How a report of the program is read, and what `--json` makes of it."""
 
+import json
 import re
 from collections import namedtuple
 
+# What a program that was compiled without proofs says, and what a proved one says there.
+UNPROVED = {'{"proved":false,': '{"proved":true,', ", compiled without proofs": ""}
 # The lower and the upper figure of a search.
 Figures = namedtuple("Figures", "low high")
 
@@ -13,9 +16,12 @@ def values_of(report):
 
 
 def figures_of(report):
-    """The figures of a search, None where there are none: both are the time of an exact answer."""
+    """The figures of a search, None where there are none: both are the time of an exact answer, or
+    of parts that are joined unchecked.
+    """
     values = values_of(report)
-    words = values.get("exact", "").split() * 2 or values.get("between", "").split()
+    exact = values.get("exact") or values.get("unchecked", "")
+    words = exact.split() * 2 or values.get("between", "").split()
     if len(words) != 2 or not all(word.isdigit() for word in words):
         return None
     return Figures(*map(int, words))
@@ -31,8 +37,8 @@ def rows_of(report):
 
 
 def is_exact(report):
-    """Whether a search answered exactly."""
-    return "exact" in values_of(report)
+    """Whether a search, or parts that are joined unchecked, answered exactly."""
+    return not values_of(report).keys().isdisjoint(("exact", "unchecked"))
 
 
 def finds_no_pair(done):
@@ -57,7 +63,7 @@ def accepted_time(report):
 
 # What the lines of a report are by their keys: one number, several, or a row of fields of which
 # those at these places are numbers. Those of LISTED come several times; all others are texts.
-NUMBER = "time a t m e n exact nodes accepted flips inputs outputs gates defaulted depth".split()
+NUMBER = "time a t m e n exact unchecked nodes accepted flips inputs outputs gates defaulted depth".split()
 NUMBERS = "between delay at".split()
 ROWS = {"last": {1}, "change": {0, 5}, "input": {0}, "output": {0}, "refused": {0, 3}}
 LISTED = "last change input output each".split()
@@ -78,6 +84,8 @@ def value_in(key, text):
         return number_in(text)
     if key in NUMBERS:
         return None if text == "none" else [number_in(word) for word in fields]
+    if key == "output" and all(word.isdigit() for word in fields):
+        return [number_in(word) for word in fields]  # the outputs that a certificate names
     if key == "output" and not text[:1].isdigit():
         return text  # a name alone: the output that changes last
     if key == "each":
@@ -102,3 +110,22 @@ def as_json(report):
         else:
             found[key] = value_in(key, text)
     return list(found.items())
+
+
+def lines_of_json(text):
+    """The pairs of a JSON report on one line but for the first, which says whether the program is
+    proved. None where the text is no such report."""
+    try:
+        pairs = json.loads(text, object_pairs_hook=list)
+    except ValueError:
+        return None
+    is_line = text.count("\n") == 1 and text.endswith("\n")
+    is_report = isinstance(pairs, list) and pairs[:1] in ([("proved", True)], [("proved", False)])
+    return pairs[1:] if is_line and is_report else None
+
+
+def as_proved(text):
+    """What a proved program prints, where one that may be compiled without proofs prints this."""
+    for here, there in UNPROVED.items():
+        text = text.replace(here, there)
+    return text

@@ -1,5 +1,5 @@
-A certificate that is read is written again as the same text: `join` of one certificate alone, without a check, writes what it read. Of
-each version, with each kind of line; so is one of the most inputs and of many lines.
+A certificate that is read is written again as the same text: `join` of one certificate alone, with `--no-check` and the words of its
+question, writes what it read. Of each version, with each kind of line; so is one of the most inputs and of many lines.
 
   $ cat > netlist.sh <<'EOF'
   > # A netlist of so many inputs and so many gates.
@@ -12,7 +12,8 @@ each version, with each kind of line; so is one of the most inputs and of many l
   > # Whether the certificate, a line for each slash, is written again.
   > printf %s "$3" | tr / '\n' > one
   > bash netlist.sh "$1" "$2" > t.v
-  > tdelay join t.v one --cert - | cmp - one && echo again
+  > words=$(sed -nE '/^at/y/ /,/; s/^(first|second|hold|flips|at)[ ,](.*)/--\1=\2/p' one)
+  > tdelay join t.v one --no-check $words --cert - | cmp - one && echo again
   > EOF
   $ bash again.sh 1 1 tdelay-cert\ 1/circuit\ 1\ 1/time\ 3/from\ 0/to\ 1/b\ a\ 3/
   again
@@ -44,5 +45,5 @@ A certificate of 4,096 inputs whose tree goes on below 100,000 splits.
   > { printf 'tdelay-cert 1\ncircuit 4096 3\ntime 0\nfrom '
   >   for i in $(seq 2048); do printf 01; done; printf '\nto '; for i in $(seq 2048); do printf 10; done; echo
   >   yes 's 0' | head -100000; yes 'b a 0' | head -100001; } > large
-  $ tdelay join t.v large --cert - | cmp - large && echo again
+  $ tdelay join t.v large --no-check --cert - | cmp - large && echo again
   again

@@ -64,7 +64,7 @@ The two halves of the question about the netlist, by the first level of its inpu
   > END
   $ tdelay worst lost.v --first 0 --second . --cert - | cmp - zero
 
-They are joined, and checked before where that is asked for; so is the certificate of the whole alone.
+They are checked and joined, which `--check` may say; so is the certificate of the whole alone. With `--no-check` none is checked.
 
   $ cat > whole <<'END'
   > tdelay-cert 1
@@ -101,6 +101,15 @@ They are joined, and checked before where that is asked for; so is the certifica
   from 0
   to 1
   nodes 7
+  $ tdelay join lost.v zero one --no-check
+  unit 1 ns
+  defaulted 0
+  unchecked 0
+  from 0
+  to 1
+  nodes 7
+  $ tdelay join lost.v zero one --check --no-check | sed -n 3p
+  unchecked 0
   $ tdelay join --check -- lost.v whole
   unit 1 ns
   defaulted 0
@@ -189,7 +198,7 @@ written over a part.
   $ tdelay join lost.v zero still --first=.
   tdelay: cannot join zero and still: other flips
   [4]
-  $ tdelay join lost.v zero other --first=.
+  $ tdelay join lost.v zero other --no-check
   tdelay: other: other circuit
   [4]
   $ tdelay join lost.v zero later --check

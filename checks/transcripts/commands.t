@@ -147,13 +147,6 @@ Numbers outside their ranges, another name of a strategy, a value behind a flag,
   2 error:
   2 error:
 
-What `join` says of the first pattern isn't what the other commands say of theirs.
-
-  $ tdelay join --help | grep -A2 -e '--first'
-        --first <TRITS>     The first vector of the whole question: 0, 1 or . (free) for each
-                            input in the order that `info` shows; all free if only --second is
-                            given, and without both as the parts together have it
-
 No line of help is wider than 100 columns.
 
   $ (tdelay --help; for command in sim path bound worst parts join check info; do tdelay $command --help; done) | awk 'length > 100 { print } END { print (NR > 150) }'

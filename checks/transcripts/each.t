@@ -87,9 +87,9 @@ Options that say what is asked go along. The whole budget is each output's. Wher
 As JSON, and from standard input.
 
   $ tdelay worst two.v --each --json
-  {"unit":"1 ns","defaulted":1,"each":[["y","exact",2,"edges",2],["\\z+ [1]","exact",5,"edges",5],["\\z+ [0]","exact",1,"edges",1]]}
+  {"proved":true,"unit":"1 ns","defaulted":1,"each":[["y","exact",2,"edges",2],["\\z+ [1]","exact",5,"edges",5],["\\z+ [0]","exact",1,"edges",1]]}
   $ tdelay worst two.v --json --each --budget 0
-  {"unit":"1 ns","defaulted":1,"each":[["y","between",2,2,"edges",2],["\\z+ [1]","between",4,5,"edges",5],["\\z+ [0]","between",0,1,"edges",1]]}
+  {"proved":true,"unit":"1 ns","defaulted":1,"each":[["y","between",2,2,"edges",2],["\\z+ [1]","between",4,5,"edges",5],["\\z+ [0]","between",0,1,"edges",1]]}
   [3]
   $ tdelay worst - --each < two.v
   unit 1 ns
@@ -105,7 +105,7 @@ Without outputs there is no line.
   unit 1 ns
   defaulted 0
   $ tdelay worst bare.v --each --json
-  {"unit":"1 ns","defaulted":0}
+  {"proved":true,"unit":"1 ns","defaulted":0}
 
 Options that belong to one answer: the first of them is named, and no file is read or written.
 

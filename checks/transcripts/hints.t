@@ -23,6 +23,18 @@ What `--hints` says behind the line of a refusal, on standard error. Without it 
     help: give the two outputs two names: there are no wired nets
   [1]
 
+The environment may ask for it, too, as a log of a batch system wants it.
+
+  $ TDELAY_HINTS=1 tdelay sim two.v 0 1
+  tdelay: netlist fault 11 TwoDrivers at line 5
+  two.v:5: a second gate output drives net y; the first is at line 4
+      buf #1 h(y,a);
+    help: give the two outputs two names: there are no wired nets
+  [1]
+  $ TDELAY_HINTS=0 tdelay sim two.v 0 1
+  tdelay: netlist fault 11 TwoDrivers at line 5
+  [1]
+
 It is an option of each command, and stands behind its name.
 
   $ tdelay --hints sim two.v 0 1 2> said; head -1 said
@@ -554,7 +566,8 @@ Each verdict but for `Accepted`.
     help: the certificate is wrong: search again
   [4]
 
-  $ bash hint.sh inverter.v 'tdelay-cert 4/circuit 1 1/default 1 2/output all/first ./second ./hold ./flips 1/at 0/keep none/time 3/high 3/from 0/to 1/b a 3/'
+  $ echo 'tdelay-cert 4/circuit 1 1/default 1 2/output all/first ./second ./hold ./flips 1/at 0/keep none/time 3/high 3/from 0/to 1/b a 3' | tr / '\n' > c
+  $ tdelay check inverter.v c --default-fall 1 --hints
   refused 11 OtherQuestion line 3
   c:3: it is about other default delays, or about other outputs
     help: give the --default-rise, --default-fall and --output of its search: its line has them
@@ -637,57 +650,72 @@ Each reason why certificates aren't joined.
   > bash part.sh '2 1' .1 0. .. 2 '' 5 11 01 'b a 5' > other_brick
   > bash part.sh '2 1' 10 .. .. 2 '' 5 10 01 'b a 5' > last_brick
   > bash part.sh '2 1' 1. .. .. 2 '' 0 10 10 none > empty
-  $ tdelay join and.v low more_gates --hints
+  $ tdelay join and.v --no-check low more_gates --hints
   tdelay: more_gates: other circuit
   more_gates: its numbers of inputs and gates, or its conditions, don't fit the circuit
     help: give the netlist that it was made for; `info` counts inputs and gates
   [4]
-  $ tdelay join and.v low other_hold --hints
+  $ tdelay join and.v --no-check low other_hold --hints
   tdelay: cannot join low and other_hold: other inputs held
   low and other_hold: the two are of questions with other inputs held (--hold)
     help: one of them is of another question: search it again with the options that `parts` printed
   [4]
-  $ tdelay join and.v low other_flips --hints
+  $ tdelay join and.v --no-check low other_flips --hints
   tdelay: cannot join low and other_flips: other flips
   low and other_flips: the two are of questions with another --flips
     help: one of them is of another question: search it again with the options that `parts` printed
   [4]
-  $ tdelay join and.v low other_moments --hints
+  $ tdelay join and.v --no-check low other_moments --hints
   tdelay: cannot join low and other_moments: other input times
   low and other_moments: the two are of questions with another --at
     help: one of them is of another question: search it again with the options that `parts` printed
   [4]
-  $ tdelay join and.v low high --first 0. --second .. --hints
+  $ tdelay join and.v --no-check low high --first 0. --second .. --hints
   tdelay: high: other pins
   high: its pins aren't a part of those of the whole (--first, --second)
     help: it is of another part of the pairs: leave it out, or loosen --first and --second
   [4]
-  $ tdelay join and.v low high again --hints
+  $ tdelay join and.v --no-check low high again --hints
   tdelay: cannot join low and again: a pair in both
   low and again: an admitted pair lies in both
     help: give each part once, and only parts of one call of `parts`
   [4]
-  $ tdelay join and.v brick other_brick last_brick --hints
+  $ tdelay join and.v --no-check brick other_brick last_brick --hints
   tdelay: cannot join brick and last_brick: no position parts them
   brick and last_brick: both lie in a cube that no bit halves so that each part lies in one of the halves
     help: give only parts of one call of `parts`
   [4]
-  $ tdelay join and.v low --first .. --second .. --hints
+  $ tdelay join and.v --no-check low --first .. --second .. --hints
   tdelay: no part for --first 1. --second ..
   a part is missing: admitted pairs lie in no certificate
-    help: search the missing part: worst with the --first and --second that the line above has, and --cert; then join all
+    help: search the missing part: worst with the --first and --second that the line above has, and --cert; then join all, or tell join the narrower question
   [4]
-  $ tdelay join and.v low empty --hints
+  $ tdelay join and.v --no-check low empty --hints
   tdelay: empty: a leaf without a pair
   empty: a leaf of it claims that no pair lies in its cube, but all pairs are admitted
     help: the certificate is wrong: search that part again
   [4]
-  $ tdelay join and.v low and.v --hints
+  $ tdelay join and.v --no-check low high --hold-input a --hints
+  tdelay: parts of another question: other inputs held
+  the parts have other inputs held than join is told (--hold)
+    help: give join the options about inputs that the parts were searched with
+  [4]
+  $ tdelay join and.v --no-check low high --flips 1 --hints
+  tdelay: parts of another question: other flips
+  the parts have another --flips than join is told
+    help: give join the options about inputs that the parts were searched with
+  [4]
+  $ tdelay join and.v --no-check low high --at 0,7 --hints
+  tdelay: parts of another question: other input times
+  the parts have another --at than join is told
+    help: give join the options about inputs that the parts were searched with
+  [4]
+  $ tdelay join and.v --no-check low and.v --hints
   tdelay: and.v: certificate fault 1 Syntax at line 1
   and.v:1: a byte that the format doesn't allow here
     help: make or fetch the certificate again; docs/CERTIFICATE.md has the format
   [1]
-  $ tdelay join and.v low high --check --hints
+  $ tdelay join and.v low high --hints
   tdelay: low: refused 2 PairTime
   low: the delay of its pair isn't its time
     help: check it with the netlist, the default delays and the --output of its search; else search again

@@ -1,5 +1,5 @@
-What certificates are joined into, and what keeps them from being joined. None of these is looked at but for its text: `join` says nothing of
-times and bounds unless `--check` asks for it.
+What certificates are joined into, and what keeps them from being joined. Those whose times are made up are joined with `--no-check`: `join`
+says nothing of their times and bounds then.
 
   $ cat > two.v <<'END'
   > module t(a, b, y);
@@ -16,7 +16,7 @@ times and bounds unless `--check` asks for it.
   > END
   $ cat > tree.sh <<'END'
   > # What certificates are joined into: the report without its head, and the tree.
-  > tdelay join two.v "$@" --cert whole | tail -4 | paste -sd' '
+  > tdelay join two.v --no-check "$@" --cert whole | sed 1,2d | paste -sd' '
   > sed '1,/^to /d' whole | paste -sd,
   > END
 
@@ -27,20 +27,20 @@ Two halves by the first level of the first input, in both orders, and one with a
   > bash part.sh '2 1' 0. .. .. 2 '' 3 00 11 's 2' 'b a 3' 'b a 2' > grown
   $ bash tree.sh low high
   > bash tree.sh high grown
-  exact 5 from 10 to 01 nodes 3
+  unchecked 5 from 10 to 01 nodes 3
   s 0,b a 3,b a 5
-  exact 5 from 10 to 01 nodes 5
+  unchecked 5 from 10 to 01 nodes 5
   s 0,s 2,b a 3,b a 2,b a 5
 
-Where the first input is held, cubes without a pair are left out between them. The pins of the whole may be given.
+Where the first input is held, cubes without a pair are left out between them. The words give the question of the whole.
 
   $ bash part.sh '2 1' 0. 0. =. 2 '' 3 00 01 'b a 3' > low_held
   > bash part.sh '2 1' 1. 1. =. 2 '' 5 10 11 'b a 5' > high_held
-  $ bash tree.sh low_held high_held
-  > bash tree.sh high_held --first 1. --second ..
-  exact 5 from 10 to 11 nodes 7
+  $ bash tree.sh low_held high_held --hold =.
+  > bash tree.sh high_held --first 1. --second .. --hold-input a
+  unchecked 5 from 10 to 11 nodes 7 first .. second .. hold =. flips 2
   s 0,s 1,b a 3,none,s 1,none,b a 5
-  exact 5 from 10 to 11 nodes 3
+  unchecked 5 from 10 to 11 nodes 3 first 1. second .. hold =. flips 2
   s 1,none,b a 5
 
 Certificates of other circuits and of other questions.
@@ -50,7 +50,7 @@ Certificates of other circuits and of other questions.
   > bash part.sh '2 1' 1. .. =. 2 '' 5 10 01 'b a 5' > other_hold
   > bash part.sh '2 1' 1. .. .. 1 '' 5 10 01 'b a 5' > other_flips
   > bash part.sh '2 1' 1. .. .. 2 '0 7' 5 10 01 'b a 5' > other_moments
-  $ for other in more_gates more_inputs other_hold other_flips other_moments; do tdelay join two.v low $other 2>&1 || echo $?; done
+  $ for other in more_gates more_inputs other_hold other_flips other_moments; do tdelay join two.v --no-check low $other 2>&1 || echo $?; done
   tdelay: more_gates: other circuit
   4
   tdelay: more_inputs: other circuit
@@ -64,10 +64,10 @@ Certificates of other circuits and of other questions.
 
 Pins that aren't a part of those of the whole, and pins of another number of inputs.
 
-  $ tdelay join two.v low high --first 0. --second ..
+  $ tdelay join two.v --no-check low high --first 0. --second ..
   tdelay: high: other pins
   [4]
-  $ tdelay join two.v low --first ... --second ...
+  $ tdelay join two.v --no-check low --first ... --second ...
   tdelay: bad vector first
   [2]
 
@@ -80,19 +80,19 @@ pairs are admitted.
   > bash part.sh '2 1' .1 0. .. 2 '' 5 11 01 'b a 5' > other_brick
   > bash part.sh '2 1' 10 .. .. 2 '' 5 10 01 'b a 5' > last_brick
   > bash part.sh '2 1' 1. .. .. 2 '' 0 10 10 none > empty
-  $ tdelay join two.v low high again
+  $ tdelay join two.v --no-check low high again
   tdelay: cannot join low and again: a pair in both
   [4]
-  $ tdelay join two.v low across
+  $ tdelay join two.v --no-check low across
   tdelay: cannot join low and across: a pair in both
   [4]
-  $ tdelay join two.v brick other_brick last_brick
+  $ tdelay join two.v --no-check brick other_brick last_brick
   tdelay: cannot join brick and last_brick: no position parts them
   [4]
-  $ tdelay join two.v low --first .. --second ..
+  $ tdelay join two.v --no-check low --first .. --second ..
   tdelay: no part for --first 1. --second ..
   [4]
-  $ tdelay join two.v low empty
+  $ tdelay join two.v --no-check low empty
   tdelay: empty: a leaf without a pair
   [4]
 
@@ -104,29 +104,216 @@ Parts that claim that no pair is admitted: what is joined claims what another pa
   > END
   $ bash none.sh 0. .1 'time none' none > never
   > bash none.sh 1. .1 'time 2' 'high 2' 'from 00' 'to 11' 'b e 2' > rises
-  $ tdelay join two.v never rises --check --cert whole
+  $ tdelay join two.v never rises --cert whole
   unit 1 ns
   defaulted 0
   exact 2
   from 00
   to 11
   nodes 3
+  keep 4 .1
   $ tdelay check two.v whole
   accepted 2
   keep 4 .1
   $ bash none.sh 01 .1 'time none' x 'f 2' 'f 4' 'k 2' 't 3 0' 'u 1' 'l 0 0 1 2' 'q none' > steps
   > bash none.sh 00 .1 'time none' none > least
-  $ tdelay join two.v steps least --check --cert whole
+  $ tdelay join two.v steps least --second 0. --cert whole
   unit 1 ns
   defaulted 0
   no admitted pair
   nodes 3
+  second 0.
+  keep 4 .1
   $ tdelay check two.v whole
   accepted none
   second 0.
   keep 4 .1
   $ sed -n '/^time/,$p' whole | paste -sd,
   time none,s 3,none,x,f 2,f 4,k 2,t 3 0,u 1,l 0 0 1 2,q none
-  $ sed 's/^l .*/l 0 0 1/' steps > hintless; tdelay join two.v hintless least --check
+  $ sed 's/^l .*/l 0 0 1/' steps > hintless; tdelay join two.v hintless least --second 0.
   tdelay: hintless: refused 10 BadStep line 18
   [4]
+  $ tdelay join two.v hintless least --second 0. --no-check
+  unit 1 ns
+  defaulted 0
+  unchecked none
+  nodes 3
+  second 0.
+  keep 4 .1
+
+Each part is checked unless the words say `--no-check`. The whole is the question of the words, and a part that is missing is refused, be there
+words or none. The words of a narrower question ask for that alone, and the report says what it is about, as `check` does of the whole.
+
+  $ cat > cut.sh <<'END'
+  > # The parts of the question of these words, searched: part-1, part-2, ..
+  > rm -f part-*
+  > tdelay parts two.v --parts 3 "$@" > lines
+  > while read -r line; do part=$((part + 1)); tdelay worst two.v $line --strategy least --cert part-$part --quiet; done < lines
+  > END
+  $ bash cut.sh
+  $ tdelay join two.v part-1 part-2 part-3 --cert whole
+  unit 1 ns
+  defaulted 0
+  exact 2
+  from 11
+  to 00
+  nodes 9
+  $ tdelay check two.v whole
+  accepted 2
+  $ tdelay join two.v part-1 part-3
+  tdelay: no part for --first 1. --second ..
+  [4]
+  $ tdelay join two.v part-1
+  tdelay: no part for --first 0. --second 1.
+  [4]
+  $ tdelay join two.v part-1 $(sed -n 1p lines)
+  unit 1 ns
+  defaulted 0
+  exact 0
+  from 00
+  to 01
+  nodes 1
+  first 0.
+  second 0.
+  hold ..
+  flips 2
+  $ tdelay join two.v part-2 part-3 --first 1.
+  tdelay: part-3: other pins
+  [4]
+  $ tdelay join two.v part-1 part-2 part-3 --no-check
+  unit 1 ns
+  defaulted 0
+  unchecked 2
+  from 11
+  to 00
+  nodes 9
+  $ tdelay join two.v part-1 part-2 part-3 --no-check --json
+  {"proved":true,"unit":"1 ns","defaulted":0,"unchecked":2,"from":"11","to":"00","nodes":9}
+  $ sed 's/^time .*/time 1/' part-2 > wrong; tdelay join two.v part-1 wrong part-3
+  tdelay: wrong: refused 2 PairTime
+  [4]
+  $ tdelay join two.v part-1 wrong part-3 --no-check --quiet; echo $?
+  0
+
+Each option that says what is asked: the parts are joined with it, and the lines after `nodes` are those of `check`. Without it, or with more,
+they are parts of another question.
+
+  $ cat > asked.sh <<'END'
+  > # What the parts of the question of these words are joined into with them, the lines that `check` has after its first, and what comes
+  > # without them.
+  > bash cut.sh "$@"
+  > tdelay join two.v part-? "$@" --cert whole | sed 1,2d | paste -sd,
+  > tdelay check two.v whole | sed 1d | paste -sd,
+  > tdelay join two.v part-? 2>&1
+  > END
+  $ bash asked.sh --first 1.
+  exact 2,from 10,to 11,nodes 5,first 1.,second ..,hold ..,flips 2
+  first 1.,second ..,hold ..,flips 2
+  tdelay: no part for --first 0. --second ..
+  [4]
+  $ bash asked.sh --second .0
+  exact 2,from 11,to 00,nodes 5,first ..,second .0,hold ..,flips 2
+  first ..,second .0,hold ..,flips 2
+  tdelay: no part for --first 0. --second .1
+  [4]
+  $ bash asked.sh --pin a=1
+  exact 2,from 11,to 10,nodes 5,first 1.,second 1.,hold ..,flips 2
+  first 1.,second 1.,hold ..,flips 2
+  tdelay: no part for --first 0. --second ..
+  [4]
+  $ bash asked.sh --hold .=
+  exact 2,from 11,to 01,nodes 13,first ..,second ..,hold .=,flips 2
+  first ..,second ..,hold .=,flips 2
+  tdelay: parts of another question: other inputs held
+  [4]
+  $ bash asked.sh --hold-input b
+  exact 2,from 11,to 01,nodes 13,first ..,second ..,hold .=,flips 2
+  first ..,second ..,hold .=,flips 2
+  tdelay: parts of another question: other inputs held
+  [4]
+  $ bash asked.sh --flips 1
+  exact 2,from 11,to 01,nodes 13,first ..,second ..,hold ..,flips 1
+  first ..,second ..,hold ..,flips 1
+  tdelay: parts of another question: other flips
+  [4]
+  $ bash asked.sh --at 0,7
+  exact 9,from 10,to 11,nodes 9,first ..,second ..,hold ..,flips 2,at 0 7
+  first ..,second ..,hold ..,flips 2,at 0 7
+  tdelay: parts of another question: other input times
+  [4]
+  $ bash asked.sh --at a=3 --flips 1 --pin b=1
+  exact 5,from 11,to 01,nodes 5,first .1,second .1,hold ..,flips 1,at 3 0
+  first .1,second .1,hold ..,flips 1,at 3 0
+  tdelay: no part for --first 00 --second 0.
+  [4]
+  $ bash cut.sh
+  $ tdelay join two.v part-1 part-2 part-3 --hold .=
+  tdelay: parts of another question: other inputs held
+  [4]
+  $ tdelay join two.v part-1 part-2 part-3 --flips 1
+  tdelay: parts of another question: other flips
+  [4]
+  $ tdelay join two.v part-1 part-2 part-3 --at 0,7
+  tdelay: parts of another question: other input times
+  [4]
+
+Of a certificate of version 4 what isn't plain.
+
+  $ tdelay worst two.v --strategy lead --flips 1 --first 0. --cert low > said; tdelay worst two.v --strategy lead --flips 1 --first 1. --cert high > said
+  $ tdelay join two.v low high --flips 1 --cert whole
+  unit 1 ns
+  defaulted 0
+  exact 2
+  from 01
+  to 11
+  nodes 3
+  flips 1
+  $ tdelay check two.v whole
+  accepted 2
+  flips 1
+  $ tdelay join two.v low high --flips 1 --json
+  {"proved":true,"unit":"1 ns","defaulted":0,"exact":2,"from":"01","to":"11","nodes":3,"flips":1}
+
+The output and the default delays, of which certificates of versions 1 to 3 say nothing.
+
+  $ printf 'module t(a, b, y, z);\ninput a, b;\noutput y, z;\nand g(y,a,b);\nxor #4 h(z,a,b);\nendmodule\n' > outputs.v
+  $ cat > named.sh <<'END'
+  > # Two parts with these words, joined with them, and the words for `check`.
+  > for bit in 0 1; do tdelay worst outputs.v --strategy least --first $bit. "$@" --cert $bit --quiet; done
+  > tdelay join outputs.v 0 1 "$@" --cert whole | paste -sd,
+  > tdelay check outputs.v whole "$@" | paste -sd,
+  > tdelay join outputs.v 0 1 2>&1 | tail -1
+  > END
+  $ bash named.sh --output y
+  unit 1 ns,defaulted 1,exact 1,from 00,to 11,nodes 7,output 0
+  accepted 1,output 0
+  tdelay: 0: refused 11 OtherQuestion line 4
+  $ bash named.sh --default-rise 9
+  unit 1 ns,defaulted 1,exact 9,from 00,to 11,nodes 9
+  accepted 9
+  tdelay: 0: refused 2 PairTime
+  $ bash named.sh --default-fall 9 --output z
+  unit 1 ns,defaulted 1,exact 4,from 00,to 01,nodes 11,default 1 9,output 1
+  accepted 4,default 1 9,output 1
+  tdelay: 0: refused 11 OtherQuestion line 3
+
+With `examples/many_machines.sh` each of them goes to `parts`, `worst`, `join` and `check`.
+
+  $ for words in --first=1. '--second .0' '--pin a=1' '--hold .=' '--hold-input b' --flips=1 '--at 0,7' '--at a=3'; do
+  >   TDELAY=tdelay JOBS=2 $NETLISTS/many_machines.sh two.v 3 whole $words | sed 1,2d | paste -sd,
+  > done
+  unchecked 2,from 10,to 11,nodes 5,first 1.,second ..,hold ..,flips 2,accepted 2
+  unchecked 2,from 11,to 00,nodes 5,first ..,second .0,hold ..,flips 2,accepted 2
+  unchecked 2,from 11,to 10,nodes 5,first 1.,second 1.,hold ..,flips 2,accepted 2
+  unchecked 2,from 11,to 01,nodes 13,first ..,second ..,hold .=,flips 2,accepted 2
+  unchecked 2,from 11,to 01,nodes 13,first ..,second ..,hold .=,flips 2,accepted 2
+  unchecked 2,from 11,to 01,nodes 13,first ..,second ..,hold ..,flips 1,accepted 2
+  unchecked 9,from 10,to 11,nodes 9,first ..,second ..,hold ..,flips 2,at 0 7,accepted 9
+  unchecked 5,from 10,to 01,nodes 5,first ..,second ..,hold ..,flips 2,at 3 0,accepted 5
+  $ for words in '--output y' --default-rise=9 '--default-fall 9 --output z' '--output y --strategy lead'; do
+  >   TDELAY=tdelay JOBS=2 $NETLISTS/many_machines.sh outputs.v 3 whole $words | sed 1,2d | paste -sd,
+  > done
+  unchecked 1,from 11,to 00,nodes 9,output 0,accepted 1
+  unchecked 9,from 10,to 11,nodes 11,accepted 9
+  unchecked 4,from 00,to 01,nodes 15,default 1 9,output 1,accepted 4
+  unchecked 1,from 11,to 00,nodes 5,output 0,accepted 1

@@ -1,51 +1,55 @@
 What `--json` prints: one object on one line, with the keys of the report's lines.
 
   $ tdelay sim $NETLISTS/hazard.v 111 011 --json
-  {"unit":"1 ns","defaulted":0,"last":[["y",5]],"time":5}
+  {"proved":true,"unit":"1 ns","defaulted":0,"last":[["y",5]],"time":5}
   $ tdelay sim $NETLISTS/hazard.v 111 111 --json
-  {"unit":"1 ns","defaulted":0,"last":[["y",null]],"time":0}
+  {"proved":true,"unit":"1 ns","defaulted":0,"last":[["y",null]],"time":0}
   $ tdelay sim $NETLISTS/c17.v 00000 11111 --json
-  {"unit":"1 ns","defaulted":6,"last":[["N22",2],["N23",3]],"time":3}
+  {"proved":true,"unit":"1 ns","defaulted":6,"last":[["N22",2],["N23",3]],"time":3}
   $ tdelay path $NETLISTS/hazard.v 111 011 --json
-  {"unit":"1 ns","defaulted":0,"change":[[0,"s","1","0","input"],[3,"n","0","1","not",3],[4,"q","0","1","and",1],[5,"y","0","1","or",1]]}
+  {"proved":true,"unit":"1 ns","defaulted":0,"change":[[0,"s","1","0","input"],[3,"n","0","1","not",3],[4,"q","0","1","and",1],[5,"y","0","1","or",1]]}
   $ tdelay path $NETLISTS/hazard.v 111 111 --json
-  {"unit":"1 ns","defaulted":0,"time":0}
+  {"proved":true,"unit":"1 ns","defaulted":0,"time":0}
   $ tdelay path $NETLISTS/hazard.v 111 111 --output y --json
-  {"unit":"1 ns","defaulted":0,"last":[["y",null]]}
+  {"proved":true,"unit":"1 ns","defaulted":0,"last":[["y",null]]}
   $ tdelay bound $NETLISTS/lost_pulse.v --edges --json
-  {"unit":"1 ns","defaulted":0,"a":3,"t":null,"m":3,"e":3,"n":3}
+  {"proved":true,"unit":"1 ns","defaulted":0,"a":3,"t":null,"m":3,"e":3,"n":3}
   $ tdelay bound $NETLISTS/inverter.v --json
-  {"unit":"1 ns","defaulted":0,"a":3,"t":null,"m":3}
+  {"proved":true,"unit":"1 ns","defaulted":0,"a":3,"t":null,"m":3}
   $ tdelay worst $NETLISTS/hazard.v --path --cert hazard.cert --json
-  {"unit":"1 ns","defaulted":0,"exact":5,"from":"000","to":"101","nodes":9,"change":[[0,"s","0","1","input"],[3,"n","1","0","not",3],[4,"q","1","0","and",1],[5,"y","1","0","or",1]]}
+  {"proved":true,"unit":"1 ns","defaulted":0,"exact":5,"from":"000","to":"101","nodes":9,"change":[[0,"s","0","1","input"],[3,"n","1","0","not",3],[4,"q","1","0","and",1],[5,"y","1","0","or",1]]}
   $ tdelay worst $NETLISTS/adder_8.v --strategy least --budget 20 --json
-  {"unit":"1 ns","defaulted":0,"between":[45,53],"cause":"budget","from":"00000000000000000","to":"00000000111111111","nodes":20}
+  {"proved":true,"unit":"1 ns","defaulted":0,"between":[45,53],"cause":"budget","from":"00000000000000000","to":"00000000111111111","nodes":20}
   [3]
   $ tdelay check $NETLISTS/hazard.v hazard.cert --json
-  {"accepted":5}
+  {"proved":true,"accepted":5}
   $ tdelay worst $NETLISTS/inverter.v --flips 0 --at 2 --cert still.cert --json
-  {"unit":"1 ns","defaulted":0,"exact":0,"from":"0","to":"0","nodes":7}
+  {"proved":true,"unit":"1 ns","defaulted":0,"exact":0,"from":"0","to":"0","nodes":7}
   $ tdelay check $NETLISTS/inverter.v still.cert --json
-  {"accepted":0,"first":".","second":".","hold":".","flips":0,"at":[2]}
+  {"proved":true,"accepted":0,"first":".","second":".","hold":".","flips":0,"at":[2]}
   $ tdelay parts $NETLISTS/c17.v --parts 2 --hold ==... --flips 3 --at 0,1,0,0,0 --json
-  {"parts":[["--first","0....","--second",".....","--hold","==...","--flips","3","--at","0,1,0,0,0"],["--first","1....","--second",".....","--hold","==...","--flips","3","--at","0,1,0,0,0"]]}
+  {"proved":true,"parts":[["--first","0....","--second",".....","--hold","==...","--flips","3","--at","0,1,0,0,0"],["--first","1....","--second",".....","--hold","==...","--flips","3","--at","0,1,0,0,0"]]}
   $ tdelay worst $NETLISTS/c17.v --first 0.... --cert 1.cert --json
-  {"unit":"1 ns","defaulted":6,"exact":3,"from":"00000","to":"11111","nodes":1}
+  {"proved":true,"unit":"1 ns","defaulted":6,"exact":3,"from":"00000","to":"11111","nodes":1}
   $ tdelay worst $NETLISTS/c17.v --first 1.... --cert 2.cert --json
-  {"unit":"1 ns","defaulted":6,"exact":3,"from":"10000","to":"01111","nodes":1}
+  {"proved":true,"unit":"1 ns","defaulted":6,"exact":3,"from":"10000","to":"01111","nodes":1}
+  $ tdelay join $NETLISTS/c17.v 1.cert 2.cert --no-check --json
+  {"proved":true,"unit":"1 ns","defaulted":6,"unchecked":3,"from":"00000","to":"11111","nodes":3}
+  $ tdelay join $NETLISTS/c17.v 1.cert --first 0.... --json
+  {"proved":true,"unit":"1 ns","defaulted":6,"exact":3,"from":"00000","to":"11111","nodes":1,"first":"0....","second":".....","hold":".....","flips":5}
   $ tdelay join $NETLISTS/c17.v 1.cert 2.cert --cert c17.cert --json
-  {"unit":"1 ns","defaulted":6,"exact":3,"from":"00000","to":"11111","nodes":3}
+  {"proved":true,"unit":"1 ns","defaulted":6,"exact":3,"from":"00000","to":"11111","nodes":3}
   $ tdelay info $NETLISTS/hazard.v --json
-  {"module":"hazard","unit":"1 ns","inputs":3,"outputs":1,"gates":4,"defaulted":0,"depth":3,"delay":[1,3],"input":[[0,"s"],[1,"a"],[2,"b"]],"output":[[0,"y"]]}
+  {"proved":true,"module":"hazard","unit":"1 ns","inputs":3,"outputs":1,"gates":4,"defaulted":0,"depth":3,"delay":[1,3],"input":[[0,"s"],[1,"a"],[2,"b"]],"output":[[0,"y"]]}
 
 A refused certificate, and one that is refused for a line of it.
 
   $ sed 's/^time 5/time 4/' hazard.cert > early.cert; tdelay check $NETLISTS/hazard.v early.cert --json
-  {"refused":[2,"PairTime"]}
+  {"proved":true,"refused":[2,"PairTime"]}
   [4]
   $ tdelay worst $NETLISTS/inverter.v --flips 0 --cert still.cert > told; sed '12s/.*/none/' still.cert > empty.cert
   $ tdelay check $NETLISTS/inverter.v empty.cert --json
-  {"refused":[9,"LeafNotEmpty","line",12]}
+  {"proved":true,"refused":[9,"LeafNotEmpty","line",12]}
   [4]
 
 Numbers are known by the key and the place in the line: names, vectors and levels are strings, also
@@ -63,42 +67,42 @@ where they look like numbers or have a space, a quote or a backslash.
   > endmodule
   > END
   $ tdelay info names.v --json
-  {"module":"\\12","unit":"1 ns","inputs":3,"outputs":3,"gates":3,"defaulted":1,"depth":1,"delay":[1,3],"input":[[0,"\\1"],[1,"\\a+ [1]"],[2,"\\a+ [0]"]],"output":[[0,"never"],[1,"\\y\" [1]"],[2,"\\y\" [0]"]]}
+  {"proved":true,"module":"\\12","unit":"1 ns","inputs":3,"outputs":3,"gates":3,"defaulted":1,"depth":1,"delay":[1,3],"input":[[0,"\\1"],[1,"\\a+ [1]"],[2,"\\a+ [0]"]],"output":[[0,"never"],[1,"\\y\" [1]"],[2,"\\y\" [0]"]]}
   $ tdelay sim names.v 000 101 --json
-  {"unit":"1 ns","defaulted":1,"last":[["never",2],["\\y\" [1]",3],["\\y\" [0]",null]],"time":3}
+  {"proved":true,"unit":"1 ns","defaulted":1,"last":[["never",2],["\\y\" [1]",3],["\\y\" [0]",null]],"time":3}
   $ tdelay path names.v 000 101 --json
-  {"unit":"1 ns","defaulted":1,"change":[[0,"\\1","0","1","input"],[3,"\\y\" [1]","0","1","and",3]]}
+  {"proved":true,"unit":"1 ns","defaulted":1,"change":[[0,"\\1","0","1","input"],[3,"\\y\" [1]","0","1","and",3]]}
   $ tdelay path names.v 000 101 --output '\y" [0]' --json
-  {"unit":"1 ns","defaulted":1,"last":[["\\y\" [0]",null]]}
+  {"proved":true,"unit":"1 ns","defaulted":1,"last":[["\\y\" [0]",null]]}
   $ tdelay worst names.v --first 0.. --second 1.. --json
-  {"unit":"1 ns","defaulted":1,"exact":3,"from":"000","to":"111","nodes":1}
+  {"proved":true,"unit":"1 ns","defaulted":1,"exact":3,"from":"000","to":"111","nodes":1}
 
 A netlist without inputs, and one without gates.
 
   $ printf "module one(y); output y; buf #3 (y, 1'b1); endmodule" > one.v
   $ tdelay info one.v --json
-  {"module":"one","unit":"1 ns","inputs":0,"outputs":1,"gates":1,"defaulted":0,"depth":1,"delay":[3,3],"output":[[0,"y"]]}
+  {"proved":true,"module":"one","unit":"1 ns","inputs":0,"outputs":1,"gates":1,"defaulted":0,"depth":1,"delay":[3,3],"output":[[0,"y"]]}
   $ tdelay sim one.v none none --json
-  {"unit":"1 ns","defaulted":0,"last":[["y",null]],"time":0}
+  {"proved":true,"unit":"1 ns","defaulted":0,"last":[["y",null]],"time":0}
   $ tdelay worst one.v --json
-  {"unit":"1 ns","defaulted":0,"exact":0,"from":"none","to":"none","nodes":1}
+  {"proved":true,"unit":"1 ns","defaulted":0,"exact":0,"from":"none","to":"none","nodes":1}
   $ tdelay parts one.v --parts 2 --json
-  {"parts":[["--first","none","--second","none"]]}
+  {"proved":true,"parts":[["--first","none","--second","none"]]}
   $ printf "module wire_only(a); input a; endmodule" > bare.v
   $ tdelay info bare.v --json
-  {"module":"wire_only","unit":"1 ns","inputs":1,"outputs":0,"gates":0,"defaulted":0,"depth":0,"delay":null,"input":[[0,"a"]]}
+  {"proved":true,"module":"wire_only","unit":"1 ns","inputs":1,"outputs":0,"gates":0,"defaulted":0,"depth":0,"delay":null,"input":[[0,"a"]]}
   $ tdelay sim bare.v 0 1 --json
-  {"unit":"1 ns","defaulted":0,"time":0}
+  {"proved":true,"unit":"1 ns","defaulted":0,"time":0}
 
 Files are written as without it. One that goes to standard output is alone there.
 
   $ tdelay sim $NETLISTS/inverter.v 0 1 --vcd inverter.vcd --json; grep -c '^#' inverter.vcd
-  {"unit":"1 ns","defaulted":0,"last":[["y",3]],"time":3}
+  {"proved":true,"unit":"1 ns","defaulted":0,"last":[["y",3]],"time":3}
   3
   $ tdelay sim $NETLISTS/inverter.v 0 1 --vcd - --json | cmp - inverter.vcd
   $ tdelay worst $NETLISTS/hazard.v --cert - --json | cmp - hazard.cert
   $ tdelay worst $NETLISTS/adder_8.v --strategy least --budget 20 --cert - --json
-  {"unit":"1 ns","defaulted":0,"between":[45,53],"cause":"budget","from":"00000000000000000","to":"00000000111111111","nodes":20}
+  {"proved":true,"unit":"1 ns","defaulted":0,"between":[45,53],"cause":"budget","from":"00000000000000000","to":"00000000111111111","nodes":20}
   [3]
 
 Help and the version are no reports.
@@ -129,7 +133,7 @@ Refusals, statuses and hints are as without it.
   tdelay: cannot read nowhere.v
   [5]
   $ tdelay sim $NETLISTS/inverter.v 0 1 --vcd nowhere/out.vcd --json
-  {"unit":"1 ns","defaulted":0,"last":[["y",3]],"time":3}
+  {"proved":true,"unit":"1 ns","defaulted":0,"last":[["y",3]],"time":3}
   tdelay: cannot write nowhere/out.vcd
   [5]
   $ tdelay sim $NETLISTS/inverter.v 0 1 --json > /dev/full
@@ -156,4 +160,4 @@ It is an option of each command, once, without a value, and stands after its nam
   tdelay: cannot read --json
   [5]
   $ tdelay info --json -- one.v
-  {"module":"one","unit":"1 ns","inputs":0,"outputs":1,"gates":1,"defaulted":0,"depth":1,"delay":[3,3],"output":[[0,"y"]]}
+  {"proved":true,"module":"one","unit":"1 ns","inputs":0,"outputs":1,"gates":1,"defaulted":0,"depth":1,"delay":[3,3],"output":[[0,"y"]]}

@@ -222,7 +222,7 @@ Moments by name; the others are 0.
   For more information, try '--help'.
   [2]
 
-`join` takes pins of the whole question.
+`join` takes the names of the whole question.
 
   $ tdelay worst bus.v --pin a=1 --pin 'v[3]=0' --cert 0.cert > /dev/null
   $ tdelay worst bus.v --pin a=1 --pin 'v[3]=1' --cert 1.cert > /dev/null
@@ -238,11 +238,29 @@ Moments by name; the others are 0.
   from 100010
   to 111110
   nodes 55
+  first ....1.
+  second ....1.
+  hold ......
+  flips 6
   accepted 3
   first ....1.
   second ....1.
   hold ......
   flips 6
+
+  $ tdelay worst bus.v --pin a=1 --hold-input 'v[3]' --at a=2 --cert held.cert > /dev/null
+  $ tdelay join bus.v held.cert --pin a=1 --hold-input 'v[3]' --at a=2
+  unit 1 ns
+  defaulted 0
+  exact 3
+  from 100010
+  to 111110
+  nodes 23
+  first ....1.
+  second ....1.
+  hold =.....
+  flips 6
+  at 0 0 0 0 2 0
 
 Names that no input has, and words that are none.
 
@@ -338,15 +356,6 @@ Commands that don't take them refuse them as any option.
     tip: to pass '--hold-input' as a value, use '-- --hold-input'
   
   Usage: tdelay bound <FILE>
-  
-  For more information, try '--help'.
-  [2]
-  $ tdelay join bus.v 0.cert --at a=1
-  error: unexpected argument '--at' found
-  
-    tip: a similar argument exists: '--default-fall'
-  
-  Usage: tdelay join --default-fall <N> <FILE> <CERT>...
   
   For more information, try '--help'.
   [2]

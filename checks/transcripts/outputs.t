@@ -35,7 +35,7 @@ Which output changes last: the line is there where it is asked for and an output
   change 0 a 0 1 input
   change 5 z 1 0 not 5
   $ tdelay sim two.v 00 11 --outputs --json
-  {"unit":"1 ns","defaulted":0,"last":[["y",2],["z",5]],"time":5,"output":["z"]}
+  {"proved":true,"unit":"1 ns","defaulted":0,"last":[["y",2],["z",5]],"time":5,"output":["z"]}
 
 Which output has the bound m: the line comes after all others, and names the first of several. It isn't there without outputs.
 
@@ -70,7 +70,7 @@ Which output has the bound m: the line comes after all others, and names the fir
   m 2
   output y
   $ tdelay bound two.v --outputs --json
-  {"unit":"1 ns","defaulted":0,"a":5,"t":null,"m":5,"output":["z"]}
+  {"proved":true,"unit":"1 ns","defaulted":0,"a":5,"t":null,"m":5,"output":["z"]}
   $ cat > closed.v <<'END'
   > module closed(a);
   > input a;
@@ -83,7 +83,7 @@ Which output has the bound m: the line comes after all others, and names the fir
   t 0
   m 0
   $ tdelay bound closed.v --outputs --json
-  {"unit":"1 ns","defaulted":0,"a":0,"t":0,"m":0}
+  {"proved":true,"unit":"1 ns","defaulted":0,"a":0,"t":0,"m":0}
   $ tdelay bound two.v --outputs=z 2>&1 | head -1
   error: unexpected value 'z' for '--outputs' found; no more were expected
   $ tdelay path two.v 00 11 --outputs 2>&1 | head -1
@@ -109,8 +109,8 @@ The netlist with one output: bounds, a search, its certificate, and parts of it.
   accepted 2
   output 0
   $ tdelay check two.v y.cert
-  refused 11 OtherQuestion line 4
-  [4]
+  accepted 2
+  output 0
   $ tdelay check two.v y.cert --output z
   refused 11 OtherQuestion line 4
   [4]
@@ -126,6 +126,7 @@ The netlist with one output: bounds, a search, its certificate, and parts of it.
   from 00
   to 11
   nodes 7
+  output 0
   $ tdelay check two.v all.cert --output y
   accepted 2
   output 0

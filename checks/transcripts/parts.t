@@ -23,7 +23,7 @@ Questions that are cut into parts, searched apart, and joined again. Six nand ga
   > done < lines
   > whole=$(tdelay worst $netlist --strategy $strategy "${pins[@]}" "${@:6}" | grep '^exact')
   > for parts in "$(seq -f 'part-%.0f' $place)" "${turned[*]}"; do
-  >   tdelay join $netlist $parts "${pins[@]}" --cert joined | grep '^exact'
+  >   tdelay join $netlist $parts "${pins[@]}" "${@:6}" --cert joined | grep '^exact'
   >   tdelay check $netlist joined | head -1
   > done | paste -sd' ' | sed "s/^/$(wc -l < lines) parts of $whole: /"
   > END

@@ -3,12 +3,12 @@ certificate behind a head that the rows of a table have in common, a slash in it
 
   $ cat > rows <<'END'
   > #!/usr/bin/env bash
-  > # rows NETLIST HEAD: reads rows, what is said, a bar, and what stands behind the head in a certificate. Prints the rows of which
+  > # rows NETLIST HEAD OPTION ..: reads rows, what is said, a bar, and what stands behind the head in a certificate. Prints the rows of which
   > # `tdelay check` says something else, with that, and how many rows there were.
   > count=0
   > while IFS='|' read -r said text; do
   >   printf '%b' "${2//\//\\n}${text//\//\\n}" > c
-  >   found=$(tdelay check "$1" c 2>&1 | head -n 1)
+  >   found=$(tdelay check "$1" c "${@:3}" 2>&1 | head -n 1)
   >   found=${found#tdelay: certificate fault }
   >   [ "$found" = "$said" ] || echo "$found|$text"
   >   count=$((count + 1))
@@ -312,10 +312,14 @@ The head is looked at before the tree.
   > refused 8 PairNotAdmitted|1 2/default 1 1/output all/first 0/second ./hold ./flips 1/at 0/keep none/time 4/high 4/from 1/to 0/x/k/q 4/
   > refused 2 PairTime|1 2/default 1 1/output all/first ./second ./hold ./flips 1/at 1/keep none/time 4/high 4/from 1/to 0/x/k/q 4/
   > refused 2 PairTime|1 2/default 1 1/output all/first ./second ./hold ./flips 1/at 0/keep none/time 3/high 3/from 1/to 0/x/k/q 4/
-  > refused 11 OtherQuestion line 3|1 2/default 2 1/output 0/first 0/second ./hold ./flips 1/at 0/keep none/time 4/high 4/from 1/to 0/x/k/q 4/
-  > refused 11 OtherQuestion line 4|1 2/default 1 1/output 0/first 0/second ./hold ./flips 1/at 0/keep none/time 4/high 4/from 1/to 0/x/k/q 4/
   > END
-  6 rows
+  4 rows
+  $ bash rows early.v 'tdelay-cert 4/circuit ' --default-rise 1 --output y <<'END'
+  > refused 11 OtherQuestion line 3|1 2/default 2 1/output 0/first 0/second ./hold ./flips 1/at 0/keep none/time 4/high 4/from 1/to 0/x/k/q 4/
+  > refused 11 OtherQuestion line 4|1 2/default 1 1/output all/first 0/second ./hold ./flips 1/at 0/keep none/time 4/high 4/from 1/to 0/x/k/q 4/
+  > refused 8 PairNotAdmitted|1 2/default 1 1/output 0/first 0/second ./hold ./flips 1/at 0/keep none/time 4/high 4/from 1/to 0/x/k/q 4/
+  > END
+  3 rows
 
 What is accepted is said with its question.
 
@@ -454,20 +458,20 @@ Parts of which one has a leaf by spans are joined into one of version 4, the lea
   $ tdelay check early.v whole
   accepted 4
 
-With `--check` each part's steps are looked at, without it they aren't.
+Each part's steps are looked at, with `--no-check` they aren't.
 
-  $ tdelay join early.v --check zero one | head -n 3
+  $ tdelay join early.v zero one | head -n 3
   unit 1 ns
   defaulted 0
   exact 4
   $ sed 's/ 2 0 1$/ 2 0/' one > hintless
-  $ tdelay join early.v --check zero hintless
+  $ tdelay join early.v zero hintless
   tdelay: hintless: refused 10 BadStep line 23
   [4]
-  $ tdelay join early.v zero hintless --cert whole | head -n 3
+  $ tdelay join early.v zero hintless --no-check --cert whole | head -n 3
   unit 1 ns
   defaulted 0
-  exact 4
+  unchecked 4
   $ tdelay check early.v whole
   refused 10 BadStep line 27
   [4]

@@ -20,9 +20,10 @@ if [ -n "$lacking" ]; then
     exit 3
 fi
 # shellcheck disable=SC2046,SC2086 # words of the command line
-"$TDELAY" join "$NETLIST" $(seq -f 'part-%.0f.cert' "$total") $JOINED --cert whole.cert || exit
+"$TDELAY" join "$NETLIST" $(seq -f 'part-%.0f.cert' "$total") $ASKED --no-check \
+    --cert whole.cert || exit
 # shellcheck disable=SC2086 # words of the command line
-checked=$("$TDELAY" check "$NETLIST" whole.cert $CHECKED)
+checked=$("$TDELAY" check "$NETLIST" whole.cert $READ)
 status=$?
 printf '%s\n' "$checked" | head -n 1
 exit $status

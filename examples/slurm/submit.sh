@@ -15,26 +15,34 @@ words="$*" NETLIST=$1 count=$2
 shift 2
 TDELAY=${TDELAY:-./tdelay} BUDGET=${BUDGET:-} most=${MOST:-64}
 
-# What is asked, how it is searched, and what `join` and `check` need of both.
-ASKED="" HOW="" JOINED="" CHECKED=""
+# What is asked (`parts` gives it to each `worst`), what of it no certificate says, so that `check`
+# is told, how `parts` cuts, and how `worst` searches.
+ASKED="" READ="" CUT="" HOW=""
 while [ $# -gt 0 ]; do
-    [ $# -ge 2 ] || { echo "submit.sh: $1 has no value" >&2; exit 2; }
-    case $1 in
-    --first | --second | --pin) ASKED="$ASKED $1 $2" JOINED="$JOINED $1 $2" ;;
-    --hold | --hold-input | --flips | --at) ASKED="$ASKED $1 $2" ;;
-    --output | --default-rise | --default-fall)
-        ASKED="$ASKED $1 $2" JOINED="$JOINED $1 $2" CHECKED="$CHECKED $1 $2" ;;
-    --strategy) ASKED="$ASKED $1 $2" HOW="$HOW $1 $2" ;;
-    --budget) BUDGET=$2 ;;
-    *) HOW="$HOW $1 $2" ;;
+    option=$1
+    shift
+    case $option in
+    --*=*) value=${option#*=} option=${option%%=*} ;;
+    *)
+        [ $# -gt 0 ] || { echo "submit.sh: $option has no value" >&2; exit 2; }
+        value=$1
+        shift ;;
     esac
-    shift 2
+    case $option in
+    --first | --second | --pin | --hold | --hold-input | --flips | --at)
+        ASKED="$ASKED $option $value" ;;
+    --output | --default-rise | --default-fall)
+        ASKED="$ASKED $option $value" READ="$READ $option $value" ;;
+    --strategy) CUT="$CUT $option $value" HOW="$HOW $option $value" ;;
+    --budget) BUDGET=$value ;;
+    *) HOW="$HOW $option $value" ;;
+    esac
 done
-export NETLIST TDELAY HOW JOINED CHECKED BUDGET
+export NETLIST TDELAY HOW ASKED READ BUDGET
 
 if [ ! -f parts.txt ]; then
     # shellcheck disable=SC2086 # words of the command line
-    "$TDELAY" parts "$NETLIST" --parts "$count" $ASKED > parts.part
+    "$TDELAY" parts "$NETLIST" --parts "$count" $ASKED $CUT > parts.part
     echo "$words" > question.txt
     mv parts.part parts.txt
 elif [ "$words" != "$(cat question.txt)" ]; then

@@ -1,8 +1,9 @@
 -- From the verdict on a certificate to what a check says.
-use Rattle.std.proofs.Common.{◌≡◌, ◌∙◌, ◌≤◌, ℕ, List, Bool, true, false, refl, sym, subst, arith, inl, inr}
+use Rattle.std.proofs.Common.{◌≡◌, ◌∙◌, ◌≤◌, ℕ, List, [], Bool, true, false, refl, sym, subst, arith, inl, inr}
 use Rattle.std.specs.Prelude.{◌==◌, if◌then◌else◌, Option, Some, None}
 use Rattle.std.proofs.lemmas.Bool.{eqb-true, eq-eqb, cases_eq}
 use Rattle.td_reading.specs.declared.reading.Reading.{Reading}
+use Rattle.td_reading.specs.declared.told.Told.{Told}
 use Rattle.td_circuit.specs.Settings.{Setting}
 use Rattle.td_certificate.specs.declared.certificate.Certificate.{Certificate}
 use Rattle.td_certificate.specs.declared.certificate.Claim.{Claim}
@@ -13,7 +14,10 @@ use Rattle.td_certificate.specs.Accepts as accepts
 use Rattle.td_certificate.specs.Spelling.{Spells}
 use Rattle.td_checker.specs.declared.verdict.Verdict.{Verdict}
 use Rattle.td_checker.specs.declared.verdict.Verdict.TheVariants as verdict
-use Rattle.td_checker.specs.Checks.{HaveVerdict, TellsTruth}
+use Rattle.td_checker.specs.Checks.{AsksAbout, HaveVerdict, TellsTruth}
+use Rattle.td_checker.proofs.Texts.{asked_by}
+use Rattle.td_certificate.proofs.Texts.{spells_once}
+use Rattle.std.proofs.lemmas.List.{append-nil}
 use Rattle.td_lines.specs.declared.line.Line.{Line}
 use Rattle.td_lines.specs.declared.line.Line.TheVariants as line
 use Rattle.td_answer.specs.declared.status.Status.{Status}
@@ -47,22 +51,27 @@ claim_true : (setting : Setting) (asking : Asking) (claim : Option Claim) → Is
 claim_true setting asking None is = is
 claim_true setting asking (Some claim) is = moments_true setting asking claim is
 
-module _ (text : List ℕ) (reading : Reading) (spelled : List ℕ) (certificate : Certificate) (report : List Line) where
-  rejected : (found : Verdict) → HaveVerdict text reading spelled found → AreRefusedLines found report → IsRejected text reading spelled report
+module _ (text : List ℕ) (reading : Reading) (told : Told) (spelled : List ℕ) (certificate : Certificate) (report : List Line) where
+  rejected : (found : Verdict) → HaveVerdict text reading told spelled found → AreRefusedLines found report → IsRejected text reading told spelled report
   rejected found has lines = record { found = found; has = has; is = lines }
 
-  by_verdict : (found : Verdict) → HaveVerdict text reading spelled found → Spells certificate spelled
+  by_verdict : (found : Verdict) → HaveVerdict text reading told spelled found → Spells certificate spelled
       → (found ≡ verdict.Accepted → TellsTruth text reading spelled) → AreVerdictLines certificate found report
-      → IsTrueVerdict text reading spelled report (ending_by found)
-  by_verdict verdict.Accepted have spells truth says = record {
-    netlist = have.netlist;
-    circuit = have.circuit;
-    certificate = certificate;
-    spells = spells;
-    claim = claimed_line certificate.claim;
-    is_true = claim_true (setting_of have.netlist certificate) (asking_of certificate.question) certificate.claim (truth refl have.netlist certificate have.circuit.reads spells);
-    is = says;
-  }
+      → IsTrueVerdict text reading told spelled report (ending_by found)
+  by_verdict verdict.Accepted have spells truth says =
+      let asked = asked_by text reading told spelled have in
+      let same : have.certificate ≡ certificate = (spells_once have.certificate certificate spelled spelled [] have.spells spells (sym (append-nil spelled))).0 in
+      let asks : AsksAbout text reading certificate asked.0 = subst (λ (c : Certificate). AsksAbout text reading c asked.0) same asked.1 in
+      record {
+        netlist = asked.0;
+        certificate = certificate;
+        spells = spells;
+        asks = asks;
+        acyclic = asked.2;
+        claim = claimed_line certificate.claim;
+        is_true = claim_true (setting_of asked.0 certificate) (asking_of certificate.question) certificate.claim (truth refl certificate spells asked.0 asks);
+        is = says;
+      }
   by_verdict verdict.PairTime have spells truth says = rejected verdict.PairTime have says
   by_verdict (verdict.LeafBound line) have spells truth says = rejected (verdict.LeafBound line) have says
   by_verdict (verdict.LeafAboveTime line) have spells truth says = rejected (verdict.LeafAboveTime line) have says
@@ -74,8 +83,8 @@ module _ (text : List ℕ) (reading : Reading) (spelled : List ℕ) (certificate
   by_verdict (verdict.BadStep line flaw) have spells truth says = rejected (verdict.BadStep line flaw) have says
   by_verdict (verdict.OtherQuestion line) have spells truth says = rejected (verdict.OtherQuestion line) have says
 
-  pub true_check : (found : Verdict) (ending : Status) → HaveVerdict text reading spelled found → Spells certificate spelled
+  pub true_check : (found : Verdict) (ending : Status) → HaveVerdict text reading told spelled found → Spells certificate spelled
       → (found ≡ verdict.Accepted → TellsTruth text reading spelled) → AreVerdictLines certificate found report → ending ≡ ending_by found
-      → IsTrueVerdict text reading spelled report ending
+      → IsTrueVerdict text reading told spelled report ending
   true_check found ending have spells truth says ends =
-      subst (λ (e : Status). IsTrueVerdict text reading spelled report e) (sym ends) (by_verdict found have spells truth says)
+      subst (λ (e : Status). IsTrueVerdict text reading told spelled report e) (sym ends) (by_verdict found have spells truth says)

@@ -1,3 +1,4 @@
+pub mod Naming
 pub mod OutputNets
 pub mod Adding
 pub mod Ways
@@ -12,3 +13,4 @@ pub mod Keeping
 pub mod Writable
 pub mod Gathered
 pub mod Reporting
+pub mod EachOne

@@ -7,7 +7,7 @@ use Rattle.td_gates.specs.declared.primitives.Level.{Level}
 use Rattle.td_gates.specs.Table.{level_from}
 use Rattle.td_nets.specs.Netlist.{Name, Named}
 use Rattle.td_reading.specs.declared.reading.Reading.{Reading}
-use Rattle.td_source.specs.Reads.{IsOutputOf}
+use Rattle.td_source.specs.Reads.{AreOutputsOf}
 use Rattle.td_circuit.specs.Numbering.{Numbered, setting}
 use Rattle.td_domain.specs.declared.cubes.Trit.{Trit}
 use Rattle.td_domain.specs.Pairs.{Pair}
@@ -47,10 +47,9 @@ use Rattle.td_answer.specs.Lines.{answer_lines, ending_of, pair_in, cause_line}
 use Rattle.td_answer.specs.Runs.{TellsPair, RunsPair}
 use Rattle.td_answer.specs.Dumps.{IsDumpWhere}
 use Rattle.td_answer.specs.Additions.{AddsLines}
-use Rattle.td_answer.specs.Certificates.{terms_in, tells_terms, certificate_in, CanBeTold}
+use Rattle.td_answer.specs.Certificates.{outputs_in, terms_in, tells_terms, certificate_in, CanBeTold}
 use Rattle.td_answer.specs.Certified.{AreTermsOf, IsCertified}
 use Rattle.td_answer.specs.Searches.{IsRefusedSearch}
-use Rattle.td_answer.specs.Tables.{found_of, IsTrueFound}
 use Rattle.td_answer.specs.Sentences.{HasFigure, IsTrueWorst}
 
 -- ---- the pair of an answer
@@ -97,18 +96,18 @@ cause_is cause.Time = refl
 
 -- a certificate tells how the netlist was read
 pub terms_read : (text : List ℕ) (reading : Reading) (by : Strategy) (read : Read) (tree : List Node) → read.default ≡ reading.default
-    → IsOutputOf text reading read.output → AreTermsOf text reading (terms_in by read tree)
-terms_read text reading by read tree same is_output = go (tells_terms by read.output tree)
+    → AreOutputsOf text reading (outputs_in read) → AreTermsOf text reading (terms_in by read tree)
+terms_read text reading by read tree same is_output = go (tells_terms by (is_some read.outputs) tree)
   where
-    go : (tells : Bool) → AreTermsOf text reading (if tells then Some (told_terms read.default read.output) else None)
-    go true = (read.output, is_output, ap (λ delays. told_terms delays read.output) same)
+    go : (tells : Bool) → AreTermsOf text reading (if tells then Some (told_terms read.default (outputs_in read)) else None)
+    go true = (outputs_in read, is_output, ap (λ delays. told_terms delays (outputs_in read)) same)
     go false = tt
 
 -- and no condition
 no_condition : (by : Strategy) (read : Read) (tree : List Node) → keep_by (terms_in by read tree) ≡ []
-no_condition by read tree = go (tells_terms by read.output tree)
+no_condition by read tree = go (tells_terms by (is_some read.outputs) tree)
   where
-    go : (tells : Bool) → keep_by (if tells then Some (told_terms read.default read.output) else None) ≡ []
+    go : (tells : Bool) → keep_by (if tells then Some (told_terms read.default (outputs_in read)) else None) ≡ []
     go true = refl
     go false = refl
 
@@ -168,7 +167,7 @@ module _ (text : List ℕ) (reading : Reading) (asked_by : Search) (circuit : Nu
       ap (λ (flips : ℕ). record admit { flips = flips }) (omega (arith, asked_flips text reading asked_by.question (setting circuit) admit asked))
 
   shown_by : (budget : ℕ) (read : Read) (found : Answer) (report : List Line) (more : List Line) → read.default ≡ reading.default
-      → IsOutputOf text reading read.output → IsSoundAnswer problem budget found → CanBeWritten problem found → CanBeTold read by found
+      → AreOutputsOf text reading (outputs_in read) → IsSoundAnswer problem budget found → CanBeWritten problem found → CanBeTold read by found
       → report ≡ (head_lines circuit.netlist ++ answer_lines found) ++ more
       → IsCertified text reading asked_by.question report (certificate_in read problem found) (ending_of found)
   shown_by budget read (answer.Exact time pair tree) report more same is_output is written can printed = record {
@@ -186,7 +185,7 @@ module _ (text : List ℕ) (reading : Reading) (asked_by : Search) (circuit : Nu
 
   -- what a search keeps is a certificate of its answer
   pub certified : (budget : ℕ) (read : Read) (found : Answer) (outcome : Outcome) → read.default ≡ reading.default
-      → IsOutputOf text reading read.output → IsSoundAnswer problem budget found → CanBeWritten problem found → CanBeTold read by found
+      → AreOutputsOf text reading (outputs_in read) → IsSoundAnswer problem budget found → CanBeWritten problem found → CanBeTold read by found
       → AddsLines (TellsPair asked_by.shown (setting circuit) (pair_in found)) (head_lines circuit.netlist ++ answer_lines found) outcome.report
       → outcome.status ≡ ending_of found → outcome.certificate ≡ certificate_in read problem found
       → IsCertified text reading asked_by.question outcome.report outcome.certificate outcome.status
@@ -196,11 +195,6 @@ module _ (text : List ℕ) (reading : Reading) (asked_by : Search) (circuit : Nu
       (shown_by budget read found outcome.report adds.0 same is_output is written can adds.1))
 
   -- the figures of an answer are true
-  pub true_found : (budget : ℕ) (found : Answer) → IsSoundAnswer problem budget found → IsTrueFound (setting circuit) admit (found_of found)
-  true_found budget (answer.Exact time pair tree) is = record { pair = pair; admitted = is.reached.0; reached = is.reached.1; greatest = is.greatest }
-  true_found budget (answer.Between low high pair nodes short) is =
-      record { pair = pair; has = record { admitted = is.reached.0; delays = is.reached.1 }; greatest = is.greatest; ordered = is.ordered }
-
   -- ---- no answer
 
   pub refused : (is_timed : Bool) (reason : WorstFault) → is_timed ≡ is_some asked_by.effort.seconds → IsWorstFault is_timed problem reason

@@ -1,5 +1,5 @@
 -- Parts that texts tell, and what they are joined into.
-use Rattle.std.proofs.Common.{◌≡◌, ◌∙◌, ◌≤◌, ℕ, Bool, true, List, [], length, take, refl, sym, subst, inl, inr, arith, append-nil}
+use Rattle.std.proofs.Common.{◌≡◌, ◌∙◌, ◌≤◌, ℕ, Bool, true, List, [], length, take, refl, sym, ap, subst, inl, inr, arith}
 use Rattle.std.specs.Prelude.{Option, Some, None, All}
 use Rattle.std.specs.Borrow.{Bor}
 use Rattle.std.proofs.lemmas.List.Elements.{All-from_recursion}
@@ -7,8 +7,8 @@ use Rattle.td_reading.specs.declared.reading.Reading.{Reading}
 use Rattle.td_nets.specs.Netlist.{Netlist}
 use Rattle.td_nets.specs.WellFormed.{IsWellFormed}
 use Rattle.td_source.specs.Reads.{HasCircuit}
-use Rattle.td_source.proofs.Naming.{reads_one}
 use Rattle.td_domain.specs.declared.cubes.Trit.{Trit}
+use Rattle.td_domain.specs.Admits.{Admitted}
 use Rattle.td_circuit.specs.Settings.{Setting, AreMoments}
 use Rattle.td_refutation.specs.Asking.{Asking}
 use Rattle.td_certificate.specs.declared.certificate.Certificate.{Certificate}
@@ -19,17 +19,16 @@ use Rattle.td_certificate.specs.Accepts.{Accepts, setting_of, IsClaimed}
 use Rattle.td_certificate.specs.Faults.{IsFault}
 use Rattle.td_certificate.specs.Spelling.{HasSpelling, latest}
 use Rattle.td_certificate.proofs.Acceptance.{accepted_is_true}
-use Rattle.td_certificate.proofs.Texts.{spells_once}
 use Rattle.td_checker.specs.declared.verdict.CheckFault.{CheckFault}
 use Rattle.td_checker.specs.declared.verdict.CheckFault.TheVariants as check
 use Rattle.td_checker.specs.Checks.{IsCheckFault}
+use Rattle.td_checker.proofs.Texts.{accepted_read}
 use Rattle.td_join.specs.Joining.{IsJoined, IsClosedClaim}
 use Rattle.td_join.specs.Faults.{IsJoinFault}
 use Rattle.td_join.specs.declared.fault.JoinFault.{JoinFault}
 use Rattle.td_answer.specs.declared.refusal.Refusal.{Refusal}
-use Rattle.td_request.specs.declared.request.Join.{Join}
-use Rattle.td_question.specs.Asking.{IsPinned}
-use Rattle.td_answer.specs.Joins.{TellsPart, TellsNoPart, AreParts, IsToJoin, IsUnjoinedFor, IsTrueWhole, whole_pins}
+use Rattle.td_answer.specs.Differences.{AsksSame}
+use Rattle.td_answer.specs.Joins.{TellsPart, TellsNoPart, AreParts, IsUnjoinedFor, IsTrueWhole}
 use Rattle.td_answer.specs.Unjoined.{IsOfPart, IsOfUnjoined, unjudged}
 use Rattle.td_answer.proofs.Zips.{zip_second}
 
@@ -69,11 +68,7 @@ module _ (text : List ℕ) (reading : Reading) (netlist : Netlist) (circuit : Ha
 
   -- the netlist accepts a part whose verdict is so
   part_accepted : (spelled : List ℕ) (part : Certificate) → TellsPart text reading netlist true spelled part → Accepts netlist part
-  part_accepted spelled part tells =
-      let have = tells.accepted refl in
-      let same_netlist : have.netlist ≡ netlist = reads_one text reading have.netlist netlist have.circuit.reads circuit.reads in
-      let same_part : have.certificate ≡ part = (spells_once have.certificate part spelled spelled [] have.spells tells.spells (sym (append-nil spelled))).0 in
-      subst (λ (c : Certificate). Accepts netlist c) same_part (subst (λ (n : Netlist). Accepts n have.certificate) same_netlist have.is.1)
+  part_accepted spelled part tells = accepted_read text reading spelled netlist part circuit.reads tells.spells (tells.accepted refl)
 
   parts_accepted : (names texts : List (List ℕ)) (parts : List Certificate) → AreParts text reading netlist true names texts parts
       → All (Accepts netlist) parts
@@ -99,15 +94,28 @@ module _ (text : List ℕ) (reading : Reading) (netlist : Netlist) (circuit : Ha
       closed_true (setting_of netlist whole) (asking_of whole.question) whole.claim
       (accepted_is_true netlist whole formed circuit.acyclic (fits whole spelled is) is) joined.whole_closed
 
--- what is to be joined
-pub to_join : (text : List ℕ) (reading : Reading) (asked : Join) (texts : List (List ℕ)) (netlist : Netlist) (parts : List Certificate) (given : Option (List Trit))
-    → IsPinned text reading asked.inputs netlist given → AreParts text reading netlist asked.check asked.parts texts parts
-    → IsToJoin text reading asked texts netlist parts (whole_pins given parts)
-to_join text reading asked texts netlist parts given pinned are = record { given = given; pinned = pinned; are_parts = are; pins_are = refl }
+-- ---- the question
+
+-- pairs that are admitted alike
+pub same_admit : (this that : Admitted) → this.pins ≡ that.pins → this.held ≡ that.held → this.flips ≡ that.flips → this ≡ that
+same_admit this that pins held flips =
+    let by_pins : this ≡ record { pins = that.pins; held = this.held; flips = this.flips }
+    = ap (λ (cube : List Trit). record { pins = cube; held = this.held; flips = this.flips }) pins in
+    let by_held : record { pins = that.pins; held = this.held; flips = this.flips } ≡ record { pins = that.pins; held = that.held; flips = this.flips }
+    = ap (λ (mask : List Bool). record { pins = that.pins; held = mask; flips = this.flips }) held in
+    let by_flips : record { pins = that.pins; held = that.held; flips = this.flips } ≡ that
+    = ap (λ (most : ℕ). record { pins = that.pins; held = that.held; flips = most }) flips in
+    by_pins ∙ by_held ∙ by_flips
+
+-- a whole of the pins and the question that are asked admits what is asked
+pub admits_asked : (parts : List Certificate) (moments : List ℕ) (admit : Admitted) (whole : Certificate) → IsJoined parts admit.pins whole
+    → AsksSame moments admit whole.question → whole.question.admit ≡ admit
+admits_asked parts moments admit whole joined same = same_admit whole.question.admit admit joined.pins_are same.held same.flips
 
 -- why the parts aren't joined
-pub unjoined_for : (names : List (List ℕ)) (parts : List Certificate) (pins : List Trit) (fault : JoinFault ℕ) (reason : Refusal)
-    → IsJoinFault parts pins fault → IsOfUnjoined names fault reason → IsUnjoinedFor names parts pins reason
-unjoined_for names parts pins fault reason is (inl memory) = subst (λ (r : Refusal). IsUnjoinedFor names parts pins r) (sym memory) tt
-unjoined_for names parts pins fault reason is (inr told) =
-    subst (λ (r : Refusal). IsUnjoinedFor names parts pins r) (sym told.is) (fault, told.reported, is, told.named)
+pub unjoined_for : (names : List (List ℕ)) (parts : List Certificate) (moments : List ℕ) (admit : Admitted) (fault : JoinFault ℕ) (reason : Refusal)
+    → IsJoinFault parts admit.pins fault → IsOfUnjoined names fault reason → IsUnjoinedFor names parts moments admit reason
+unjoined_for names parts moments admit fault reason is (inl memory) =
+    subst (λ (r : Refusal). IsUnjoinedFor names parts moments admit r) (sym memory) tt
+unjoined_for names parts moments admit fault reason is (inr told) =
+    subst (λ (r : Refusal). IsUnjoinedFor names parts moments admit r) (sym told.is) (fault, told.reported, is, told.named)

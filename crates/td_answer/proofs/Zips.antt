@@ -1,9 +1,10 @@
 -- Two lists of one length, element by element.
-use Rattle.std.proofs.Common.{◌<◌, ◌≤◌, ◌+◌, ℕ, List, [], ◌∷◌, ◌++◌, length, take, get_or, sym, subst, arith}
+use Rattle.std.proofs.Common.{◌≡◌, ◌∙◌, ◌<◌, ◌≤◌, ◌+◌, ℕ, suc, List, [], ◌∷◌, ◌++◌, length, take, get_or, sym, ap, subst, arith, Some, slice_get}
 use Rattle.std.specs.Prelude.{map, All}
 use Rattle.std.specs.List.{AllZip}
 use Rattle.std.proofs.lemmas.List.{take_more, take_all}
 use Rattle.std.proofs.lemmas.List.Elements.{All-cons}
+use Rattle.td_gates.proofs.Places.{take_push}
 
 module _ {A B : Type 0} (R : A → B → Type 0) where
   zip_push : (xs : List A) (ys : List B) (x : A) (y : B) → AllZip R xs ys → R x y → AllZip R (xs ++ x ∷ []) (ys ++ y ∷ [])
@@ -17,6 +18,13 @@ module _ {A B : Type 0} (R : A → B → Type 0) where
       → AllZip R (take (i + 1) xs) (ys ++ y ∷ [])
   zip_more xs ys i d y less all r =
       subst (λ (front : List A). AllZip R front (ys ++ y ∷ [])) (sym (take_more xs i d less)) (zip_push (take i xs) ys (get_or xs i d) y all r)
+
+  -- one more of each, by what stands there
+  pub zip_next : (xs : List A) (ys : List B) (i : ℕ) (x : A) (y : B) → slice_get xs i ≡ Some x → AllZip R (take i xs) ys → R x y
+      → AllZip R (take (i + 1) xs) (ys ++ y ∷ [])
+  zip_next xs ys i x y at all r =
+      let next : i + 1 ≡ suc i = omega arith in
+      subst (λ (front : List A). AllZip R front (ys ++ y ∷ [])) (sym (ap (λ (n : ℕ). take n xs) next ∙ take_push xs i x at)) (zip_push (take i xs) ys x y all r)
 
   -- all of them
   pub zip_all : (xs : List A) (ys : List B) (i : ℕ) → length xs ≤ i → AllZip R (take i xs) ys → AllZip R xs ys

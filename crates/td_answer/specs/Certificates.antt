@@ -1,5 +1,7 @@
 -- The certificate of an exact answer.
-use Rattle.std.specs.Prelude.{ℕ, List, Bool, true, ◌||◌, if◌then◌else◌, Option, Some, None, is_some}
+use Rattle.std.specs.Prelude.{ℕ, List, Bool, true, ◌||◌, if◌then◌else◌, Option, Some, None, is_some, option_map}
+use Rattle.std.specs.Global.{Vec}
+use Rattle.td_gates.specs.Delays.{Delays}
 use Rattle.td_certificate.specs.declared.certificate.Certificate.{Certificate}
 use Rattle.td_certificate.specs.declared.tree.Node.{Node}
 use Rattle.td_certificate.specs.Questions.{Terms}
@@ -16,12 +18,20 @@ use Rattle.td_answer.specs.declared.certifying.Read.{Read}
 
 -- whether a certificate tells how the netlist is read: not where a tree by `Least` without a leaf
 -- that is bounded by edges or refuted is about all outputs
-abbrev pub tells_terms : Strategy → Option ℕ → List Node → Bool
-tells_terms strategy.Lead output tree = true
-tells_terms strategy.Least output tree = is_some output || (has_edges tree || has_refuted tree)
+abbrev pub tells_terms : Strategy → Bool → List Node → Bool
+tells_terms strategy.Lead some tree = true
+tells_terms strategy.Least some tree = some || (has_edges tree || has_refuted tree)
+
+-- how a netlist was read
+abbrev pub read_by : Delays → Option (Vec ℕ) → Read
+read_by default outputs = record { default = default; outputs = outputs }
+
+-- the numbers of the outputs that are asked about
+abbrev pub outputs_in : Read → Option (List ℕ)
+outputs_in read = option_map (λ numbers. numbers.items) read.outputs
 
 abbrev pub terms_in : Strategy → Read → List Node → Option Terms
-terms_in by read tree = if tells_terms by read.output tree then Some (told_terms read.default read.output) else None
+terms_in by read tree = if tells_terms by (is_some read.outputs) tree then Some (told_terms read.default (outputs_in read)) else None
 
 -- the certificate of an exact answer
 abbrev pub certificate_in : Read → Problem → Answer → Option Certificate

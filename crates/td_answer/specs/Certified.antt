@@ -3,7 +3,7 @@ use Rattle.std.specs.Prelude.{◌≡◌, ℕ, List, Option, Some, None}
 use Rattle.std.specs.List.{Contains}
 use Rattle.td_nets.specs.Netlist.{Netlist}
 use Rattle.td_reading.specs.declared.reading.Reading.{Reading}
-use Rattle.td_source.specs.Reads.{IsOutputOf}
+use Rattle.td_source.specs.Reads.{AreOutputsOf}
 use Rattle.td_certificate.specs.declared.certificate.Certificate.{Certificate}
 use Rattle.td_certificate.specs.declared.certificate.Claim.{Claim}
 use Rattle.td_certificate.specs.Accepts.{Accepts, setting_of}
@@ -20,7 +20,7 @@ use Rattle.td_answer.specs.declared.status.Status.TheVariants as status
 -- where it tells how the netlist is read, it is read so
 abbrev pub AreTermsOf : List ℕ → Reading → Option Terms → Type 0
 AreTermsOf text reading None = Unit {0}
-AreTermsOf text reading (Some terms) = (output : Option ℕ) × IsOutputOf text reading output × (terms ≡ told_by reading output)
+AreTermsOf text reading (Some terms) = (outputs : Option (List ℕ)) × AreOutputsOf text reading outputs × (terms ≡ told_by reading outputs)
 
 -- it is about what the request asks, tells the time that is printed and no other moment, is
 -- accepted, and has a text

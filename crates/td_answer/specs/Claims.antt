@@ -22,16 +22,10 @@ abbrev pub claimed_line : Option Claim → Line
 claimed_line None = line.AcceptedNone
 claimed_line (Some claim) = accepted_line claim.time claim.high
 
--- the number of the output that is asked about, where one is
-abbrev pub output_number : Option (List ℕ) → Option ℕ
-output_number None = None
-output_number (Some []) = None
-output_number (Some (number ∷ others)) = Some number
-
 -- what a line of the certificate's text tells
 abbrev pub field_line : Question → Field → Line
 field_line question DefaultField = line.Default (terms_of question).default.rise (terms_of question).default.fall
-field_line question OutputField = line.OutputNumber (output_number (terms_of question).outputs)
+field_line question OutputField = line.OutputNumbers (terms_of question).outputs
 field_line question FirstField = line.First (row trit (first_trits question.admit.pins))
 field_line question SecondField = line.Second (row trit (second_trits question.admit.pins))
 field_line question HoldField = line.Hold (row hold question.admit.held)

@@ -5,7 +5,7 @@ use Rattle.std.specs.List.{AllZip}
 use Rattle.td_nets.specs.Netlist.{Netlist}
 use Rattle.td_reading.specs.declared.reading.Reading.{Reading}
 use Rattle.td_source.specs.Reads.{HasCircuit}
-use Rattle.td_domain.specs.declared.cubes.Trit.{Trit}
+use Rattle.td_domain.specs.Admits.{Admitted}
 use Rattle.td_certificate.specs.declared.certificate.Certificate.{Certificate}
 use Rattle.td_certificate.specs.declared.certificate.Claim.{Claim}
 use Rattle.td_certificate.specs.declared.fault.CertFaultKind.TheVariants as certificate_kind
@@ -14,17 +14,20 @@ use Rattle.td_refutation.specs.Asking.{Asking}
 use Rattle.td_certificate.specs.Questions.{asking_of}
 use Rattle.td_certificate.specs.Accepts.{Accepts, AsksNone, IsOfSize, setting_of}
 use Rattle.td_certificate.specs.Faults.{IsFault}
-use Rattle.td_certificate.specs.Spelling.{Spells, HasSpelling}
+use Rattle.td_certificate.specs.Spelling.{Spells, HasSpelling, version_in}
 use Rattle.td_checker.specs.declared.verdict.Verdict.TheVariants.{Accepted}
-use Rattle.td_checker.specs.Checks.{HaveVerdict, IsCheckFault}
+use Rattle.td_checker.specs.Checks.{told_all, HaveVerdict, IsCheckFault}
 use Rattle.td_join.specs.declared.fault.JoinFault.{JoinFault}
 use Rattle.td_join.specs.declared.fault.JoinFault.TheVariants as fault
-use Rattle.td_join.specs.Joining.{IsJoined, hull}
+use Rattle.td_join.specs.Joining.{IsJoined}
 use Rattle.td_join.specs.Faults.{IsJoinFault, renamed}
 use Rattle.td_request.specs.declared.request.Join.{Join}
-use Rattle.td_question.specs.Asking.{IsPinned, IsFaultOf, pin_words}
+use Rattle.td_question.specs.Asking.{IsAsked, IsQuestionFault}
 use Rattle.td_answer.specs.Heads.{head_lines}
 use Rattle.td_answer.specs.Lines.{whole_lines}
+use Rattle.td_answer.specs.Claims.{question_lines}
+use Rattle.td_answer.specs.Differences.{DiffersIn}
+use Rattle.td_lines.specs.declared.line.Line.{Line}
 use Rattle.td_answer.specs.Verdicts.{IsWorstAsked}
 use Rattle.td_answer.specs.declared.outcome.Outcome.{Outcome}
 use Rattle.td_answer.specs.declared.refusal.Refusal.{Refusal}
@@ -35,12 +38,6 @@ use Rattle.td_answer.specs.declared.status.Status.TheVariants.{Done}
 abbrev pub texts_of : List (Vec ℕ) → List (List ℕ)
 texts_of certificates = map (λ text. text.items) certificates
 
--- the pins of the whole: those that are given, or else the least cube that has the pins of all
--- parts
-abbrev pub whole_pins : Option (List Trit) → List Certificate → List Trit
-whole_pins None parts = hull parts
-whole_pins (Some pins) parts = pins
-
 -- ---- the parts
 
 -- for a netlist, the text spells this certificate, which is of a circuit of its size, and accepted
@@ -48,7 +45,7 @@ whole_pins (Some pins) parts = pins
 pub record TellsPart (text : List ℕ) (reading : Reading) (netlist : Netlist) (check : Bool) (spelled : List ℕ) (part : Certificate) : Type 0 where
   pub spells : Spells part spelled
   pub sized : IsOfSize netlist part
-  pub accepted : check ≡ true → HaveVerdict text reading spelled Accepted
+  pub accepted : check ≡ true → HaveVerdict text reading told_all spelled Accepted
 
 -- why a text gives no part, another verdict only where parts are checked; the refusal names its
 -- file
@@ -57,7 +54,7 @@ TellsNoPart text reading netlist check name spelled refusal.OutOfMemory = Unit {
 TellsNoPart text reading netlist check name spelled (refusal.BadPart reported found) =
     (found.kind ≢ certificate_kind.OutOfMemory) × (reported.now ≡ name) × IsFault found.kind found.line spelled
 TellsNoPart text reading netlist check name spelled (refusal.Unaccepted reported verdict) =
-    (check ≡ true) × (reported.now ≡ name) × (verdict ≢ Accepted) × HaveVerdict text reading spelled verdict
+    (check ≡ true) × (reported.now ≡ name) × (verdict ≢ Accepted) × HaveVerdict text reading told_all spelled verdict
 TellsNoPart text reading netlist check name spelled (refusal.OtherCircuit reported) =
     (reported.now ≡ name) × (part : Certificate) × Spells part spelled × ¬ IsOfSize netlist part
 TellsNoPart text reading netlist check name spelled (refusal.Check found) = (check ≡ true) × IsCheckFault text reading spelled found
@@ -83,13 +80,11 @@ pub record HasNoPart (text : List ℕ) (reading : Reading) (netlist : Netlist) (
 
 -- ---- what is joined
 
--- the text means a netlist without a loop, the texts tell parts of a question about it, and these
--- are the pins of the whole
-pub record IsToJoin (text : List ℕ) (reading : Reading) (asked : Join) (texts : List (List ℕ)) (netlist : Netlist) (parts : List Certificate) (pins : List Trit) : Type 0 where
-  pub given : Option (List Trit)
-  pub pinned : IsPinned text reading asked.inputs netlist given
-  pub are_parts : AreParts text reading netlist asked.check asked.parts texts parts
-  pub pins_are : pins ≡ whole_pins given parts
+-- the words ask about these pairs of the text's netlist, which has no loop, with these moments, and
+-- the texts tell certificates about it
+pub record IsToJoin (text : List ℕ) (reading : Reading) (asked : Join) (texts : List (List ℕ)) (setting : Setting) (admit : Admitted) (parts : List Certificate) : Type 0 where
+  pub asks : IsAsked text reading asked.question setting admit
+  pub are_parts : AreParts text reading setting.netlist asked.check asked.parts texts parts
 
 -- the most nodes of a whole
 abbrev pub most_nodes : ℕ
@@ -101,21 +96,29 @@ abbrev pub IsTrueWhole : Setting → Asking → Option Claim → Type 0
 IsTrueWhole setting asking None = AsksNone setting.netlist asking
 IsTrueWhole setting asking (Some claim) = IsWorstAsked setting asking claim.time
 
--- The parts are joined into one certificate, which has a text and not too many nodes, and the
--- report tells its time and its pair, as that of a search does, or that no pair is admitted, and the
--- number of its nodes. Where each part is accepted of a netlist, so is the whole. Where the parts
--- are checked, what it claims is true.
+-- what it claims, and what it is about, in the lines of `check`
+abbrev pub joined_lines : Netlist → Bool → Certificate → List Line
+joined_lines netlist checked whole =
+    (head_lines netlist ++ whole_lines checked whole.claim (length whole.tree)) ++ question_lines (version_in whole) whole.question
+
+-- The parts are joined into one certificate of the question that the words ask, its pins, held
+-- inputs, flips and moments, all of it. It has a text and not too many nodes, and the report tells
+-- its time and its pair, as that of a search does, or that no pair is admitted, the number of its
+-- nodes, and its question. Where each part is accepted of a netlist, so is the whole. Where the
+-- parts are checked, what it claims is true; where they aren't, its line is `unchecked`.
 pub record IsJoinedTo (text : List ℕ) (reading : Reading) (asked : Join) (texts : List (List ℕ)) (outcome : Outcome) (whole : Certificate) : Type 0 where
-  pub netlist : Netlist
+  pub setting : Setting
+  pub admit : Admitted
   pub parts : List Certificate
-  pub pins : List Trit
-  pub to_join : IsToJoin text reading asked texts netlist parts pins
-  pub joined : IsJoined parts pins whole
+  pub to_join : IsToJoin text reading asked texts setting admit parts
+  pub joined : IsJoined parts admit.pins whole
+  pub admits : whole.question.admit ≡ admit
+  pub dated : whole.question.moments ≡ setting.moments
   pub has_text : HasSpelling whole
   pub few : length whole.tree ≤ most_nodes
   pub accepted : (any : Netlist) → All (Accepts any) parts → Accepts any whole
-  pub claims : asked.check ≡ true → IsTrueWhole (setting_of netlist whole) (asking_of whole.question) whole.claim
-  pub is : outcome.report ≡ head_lines netlist ++ whole_lines whole.claim (length whole.tree)
+  pub claims : asked.check ≡ true → IsTrueWhole (setting_of setting.netlist whole) (asking_of whole.question) whole.claim
+  pub is : outcome.report ≡ joined_lines setting.netlist asked.check whole
   pub ends : outcome.status ≡ Done
 
 -- the outcome's certificate is what they are joined to
@@ -128,32 +131,35 @@ IsTrueJoin text reading asked texts outcome = IsJoinedInto text reading asked te
 
 -- ---- why nothing is joined
 
--- why parts aren't joined into a certificate with these pins: the fault, with the names of the
--- files at its places; or what they are joined into has too many nodes
-abbrev pub IsUnjoinedFor : List (List ℕ) → List Certificate → List Trit → Refusal → Type 0
-IsUnjoinedFor names parts pins (refusal.NotJoined told) =
-    (reported : JoinFault ℕ) × (reported ≢ fault.OutOfMemory) × IsJoinFault parts pins reported
+-- why parts aren't joined into a certificate about these pairs, with these moments: the fault, with
+-- the names of the files at its places; or what they are joined into has too many nodes, or holds
+-- other inputs, or has other flips or moments
+abbrev pub IsUnjoinedFor : List (List ℕ) → List Certificate → List ℕ → Admitted → Refusal → Type 0
+IsUnjoinedFor names parts moments admit (refusal.NotJoined told) =
+    (reported : JoinFault ℕ) × (reported ≢ fault.OutOfMemory) × IsJoinFault parts admit.pins reported
     × (renamed (λ name. name.now) told ≡ renamed (λ place. get_or names place []) reported)
-IsUnjoinedFor names parts pins refusal.TooLong = (whole : Certificate) × IsJoined parts pins whole × (most_nodes < length whole.tree)
-IsUnjoinedFor names parts pins refusal.OutOfMemory = Unit {0}
-IsUnjoinedFor names parts pins other = ⊥
+IsUnjoinedFor names parts moments admit refusal.TooLong = (whole : Certificate) × IsJoined parts admit.pins whole × (most_nodes < length whole.tree)
+IsUnjoinedFor names parts moments admit (refusal.OtherQuestion found) =
+    (whole : Certificate) × IsJoined parts admit.pins whole × DiffersIn moments admit whole.question found
+IsUnjoinedFor names parts moments admit refusal.OutOfMemory = Unit {0}
+IsUnjoinedFor names parts moments admit other = ⊥
 
 -- the parts aren't joined
 pub record IsNotJoined (text : List ℕ) (reading : Reading) (asked : Join) (texts : List (List ℕ)) (reason : Refusal) : Type 0 where
-  pub netlist : Netlist
+  pub setting : Setting
+  pub admit : Admitted
   pub parts : List Certificate
-  pub pins : List Trit
-  pub to_join : IsToJoin text reading asked texts netlist parts pins
-  pub unjoined : IsUnjoinedFor asked.parts parts pins reason
+  pub to_join : IsToJoin text reading asked texts setting admit parts
+  pub unjoined : IsUnjoinedFor asked.parts parts setting.moments admit reason
 
--- why there is nothing to join: the netlist's text, or what is said of pins
-abbrev pub IsUnpinned : List ℕ → Reading → Join → Refusal → Type 0
-IsUnpinned text reading asked refusal.OutOfMemory = Unit {0}
-IsUnpinned text reading asked (refusal.Question found) = IsFaultOf text reading asked.inputs pin_words found
-IsUnpinned text reading asked other = ⊥
+-- why no question is asked: the netlist's text, or the words
+abbrev pub IsUnasked : List ℕ → Reading → Join → Refusal → Type 0
+IsUnasked text reading asked refusal.OutOfMemory = Unit {0}
+IsUnasked text reading asked (refusal.Question found) = IsQuestionFault text reading asked.question found
+IsUnasked text reading asked other = ⊥
 
 abbrev pub IsRefusedJoin : List ℕ → Reading → Join → List (List ℕ) → Refusal → Type 0
 IsRefusedJoin text reading asked texts reason =
-    IsUnpinned text reading asked reason
+    IsUnasked text reading asked reason
     ⊎ (((netlist : Netlist) × HasCircuit text reading netlist × HasNoPart text reading netlist asked.check asked.parts texts reason)
     ⊎ IsNotJoined text reading asked texts reason)

@@ -21,6 +21,7 @@ pub mod Bounds
 pub mod BoundNets
 pub mod Infos
 pub mod Parts
+pub mod Differences
 pub mod Joins
 pub mod Unjoined
 pub mod Outcomes

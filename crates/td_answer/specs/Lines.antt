@@ -1,5 +1,5 @@
 -- The lines of the answer of a search.
-use Rattle.std.specs.Prelude.{ℕ, List, [], ◌∷◌, length, Option, Some, None}
+use Rattle.std.specs.Prelude.{ℕ, Bool, true, false, List, [], ◌∷◌, length, Option, Some, None}
 use Rattle.td_domain.specs.Pairs.{Pair}
 use Rattle.td_certificate.specs.declared.certificate.Claim.{Claim}
 use Rattle.td_search.specs.declared.answers.Cause.{Cause}
@@ -28,10 +28,20 @@ abbrev pub answer_lines : Answer → List Line
 answer_lines (answer.Exact time pair tree) = exact_lines time pair (length tree)
 answer_lines (answer.Between low high pair nodes cause) = between_lines low high cause pair nodes
 
+-- the time of a whole whose parts were checked, or weren't, and that no pair is admitted
+abbrev pub time_line : Bool → ℕ → Line
+time_line true time = line.Exact time
+time_line false time = line.Unchecked time
+
+abbrev pub none_line : Bool → Line
+none_line true = line.NoPair
+none_line false = line.UncheckedNone
+
 -- of a whole: what it claims, as that of a search, or that no pair is admitted
-abbrev pub whole_lines : Option Claim → ℕ → List Line
-whole_lines None nodes = line.NoPair ∷ line.Nodes nodes ∷ []
-whole_lines (Some claim) nodes = exact_lines claim.time claim.pair nodes
+abbrev pub whole_lines : Bool → Option Claim → ℕ → List Line
+whole_lines checked None nodes = none_line checked ∷ line.Nodes nodes ∷ []
+whole_lines checked (Some claim) nodes =
+    time_line checked claim.time ∷ line.From claim.pair.first ∷ line.To claim.pair.second ∷ line.Nodes nodes ∷ []
 
 -- the pair of an answer
 abbrev pub pair_in : Answer → Pair

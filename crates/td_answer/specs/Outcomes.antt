@@ -18,7 +18,7 @@ use Rattle.td_answer.specs.Paths.{IsTruePath, IsRefusedPath}
 use Rattle.td_answer.specs.Searches.{IsRefusedSearch}
 use Rattle.td_answer.specs.Sentences.{IsTrueWorst}
 use Rattle.td_answer.specs.Simulations.{IsTrueSim, IsRefusedSim}
-use Rattle.td_answer.specs.Tables.{IsTrueTable, IsRefusedTable}
+use Rattle.td_answer.specs.Tables.{IsTrueTable}
 use Rattle.td_answer.specs.Verdicts.{IsTrueCheck, IsRefusedCheck}
 use Rattle.td_answer.specs.declared.outcome.Outcome.{Outcome}
 use Rattle.td_answer.specs.declared.refusal.Refusal.{Refusal}
@@ -28,9 +28,9 @@ use Rattle.td_answer.specs.declared.texts.Texts.{Texts}
 -- ---- checks
 
 -- the text of the certificate is there, and this is true of it
-abbrev pub IsCheckedTrue : List ℕ → Reading → Option (Vec ℕ) → Outcome → Type 0
-IsCheckedTrue text reading None outcome = ⊥
-IsCheckedTrue text reading (Some spelled) outcome = IsTrueCheck text reading spelled.items outcome
+abbrev pub IsCheckedTrue : List ℕ → Reading → Check → Option (Vec ℕ) → Outcome → Type 0
+IsCheckedTrue text reading asked None outcome = ⊥
+IsCheckedTrue text reading asked (Some spelled) outcome = IsTrueCheck text reading asked.told spelled.items outcome
 
 -- or it isn't there, and the refusal names its file
 abbrev pub IsRefusedChecked : List ℕ → Reading → Check → Option (Vec ℕ) → Refusal → Type 0
@@ -48,10 +48,6 @@ abbrev pub IsCertifiedSearch : Bool → List ℕ → Reading → Search → Outc
 IsCertifiedSearch false text reading asked outcome = IsCertified text reading asked.question outcome.report outcome.certificate outcome.status
 IsCertifiedSearch true text reading asked outcome = outcome.certificate ≡ None
 
-abbrev pub IsRefusedSearched : Bool → List ℕ → Reading → Search → Refusal → Type 0
-IsRefusedSearched false text reading asked reason = IsRefusedSearch text reading asked reason
-IsRefusedSearched true text reading asked reason = IsRefusedTable text reading asked reason
-
 -- ---- requests
 
 -- it is no search
@@ -67,7 +63,7 @@ SaysTrue (command.Bound asked) text reading spelled outcome = IsTrueBound text r
 SaysTrue (command.Worst asked) text reading spelled outcome = IsSearchedTrue asked.each text reading asked outcome
 SaysTrue (command.Parts asked) text reading spelled outcome = IsTrueParts text reading asked outcome
 SaysTrue (command.Join asked) text reading spelled outcome = IsTrueJoin text reading asked (texts_of spelled) outcome
-SaysTrue (command.Check asked) text reading spelled outcome = IsCheckedTrue text reading (slice_get spelled 0) outcome
+SaysTrue (command.Check asked) text reading spelled outcome = IsCheckedTrue text reading asked (slice_get spelled 0) outcome
 SaysTrue command.Info text reading spelled outcome = IsTrueInfo text reading outcome
 
 -- the certificate
@@ -81,7 +77,7 @@ abbrev pub IsRefusedBy : Command → List ℕ → Reading → List (Vec ℕ) →
 IsRefusedBy (command.Sim asked) text reading spelled reason = IsRefusedSim text reading asked reason
 IsRefusedBy (command.Path asked) text reading spelled reason = IsRefusedPath text reading asked reason
 IsRefusedBy (command.Bound asked) text reading spelled reason = IsRefusedBound text reading asked reason
-IsRefusedBy (command.Worst asked) text reading spelled reason = IsRefusedSearched asked.each text reading asked reason
+IsRefusedBy (command.Worst asked) text reading spelled reason = IsRefusedSearch text reading asked reason
 IsRefusedBy (command.Parts asked) text reading spelled reason = IsRefusedParts text reading asked reason
 IsRefusedBy (command.Join asked) text reading spelled reason = IsRefusedJoin text reading asked (texts_of spelled) reason
 IsRefusedBy (command.Check asked) text reading spelled reason = IsRefusedChecked text reading asked (slice_get spelled 0) reason

@@ -1,7 +1,8 @@
 -- What is true of the outcome of `parts`.
 use Rattle.std.specs.Prelude.{◌≡◌, ◌<◌, ◌≤◌, ◌==◌, ℕ, List, [], ◌∷◌, ◌++◌, if◌then◌else◌, All, map, codes, decimal, length, Option, Some, None}
+use Rattle.std.specs.Borrow.{Bor}
+use Rattle.std.specs.List.{flat_map}
 use Rattle.td_reading.specs.declared.reading.Reading.{Reading}
-use Rattle.td_reading.specs.Outputs.{output_asked}
 use Rattle.td_circuit.specs.Settings.{Setting}
 use Rattle.td_domain.specs.declared.cubes.Trit.{Trit}
 use Rattle.td_domain.specs.Admits.{Admitted, HasAdmitted}
@@ -44,11 +45,19 @@ pins_words pins = codes "--first" ∷ row trit (first_trits pins) ∷ codes "--s
 abbrev pub question_words : Placed → Option ℕ → List (List ℕ)
 question_words words flips = given_words (codes "--hold") words.hold ++ flips_words flips ++ given_words (codes "--at") words.at
 
+-- the option of each output that is asked about
+abbrev pub outputs_words : List (List ℕ) → List (List ℕ)
+outputs_words names = flat_map (λ name. codes "--output" ∷ name ∷ []) names
+
+-- Internal: the option of one output.
+abbrev pub output_words : Bor (List ℕ) → List (List ℕ)
+output_words name = codes "--output" ∷ name.now ∷ []
+
 -- how the netlist's text is read
 abbrev pub reading_words : Reading → List (List ℕ)
 reading_words reading =
     default_words (codes "--default-rise") reading.default.rise ++ default_words (codes "--default-fall") reading.default.fall
-    ++ given_words (codes "--output") (output_asked reading)
+    ++ outputs_words reading.outputs
 
 -- the options by which `worst` searches the part with these pins
 abbrev pub part_words : Reading → Placed → Option ℕ → List Trit → List (List ℕ)

@@ -1,10 +1,11 @@
 -- What is true of the outcome of `path`.
-use Rattle.std.specs.Prelude.{◌≡◌, ◌≢◌, ℕ, List, [], ◌∷◌, ◌++◌, Option, Some, None}
+use Rattle.std.specs.Prelude.{◌≡◌, ℕ, List, [], ◌∷◌, ◌++◌, Option, Some, None}
 use Rattle.std.specs.Borrow.{Bor}
 use Rattle.std.specs.List.{Contains}
 use Rattle.td_gates.specs.Wave.{Wave}
 use Rattle.td_nets.specs.Netlist.{Name, Net, Netlist}
 use Rattle.td_nets.specs.Printed.{printed}
+use Rattle.td_source.specs.Reads.{HasNoneNamed}
 use Rattle.td_circuit.specs.Settings.{Setting}
 use Rattle.td_reading.specs.declared.reading.Reading.{Reading}
 use Rattle.td_request.specs.declared.request.Path.{Path}
@@ -33,10 +34,6 @@ pub record ReportsPath (setting : Setting) (waves : Net → Wave) (output : Opti
   pub lines : List Line
   pub tells : TellsPath setting waves output lines
   pub is : report ≡ head_lines setting.netlist ++ lines
-
--- no output has this name
-abbrev pub HasNoneNamed : Netlist → List ℕ → Type 0
-HasNoneNamed netlist word = (output : Name) → Contains netlist.outputs output → printed output ≢ word
 
 -- the report is that of the run of what the request asks of the text
 pub record IsTruePath (text : List ℕ) (reading : Reading) (asked : Path) (outcome : Outcome) : Type 0 where

@@ -32,6 +32,8 @@ use Rattle.td_question.specs.declared.vector.VectorWord.TheVariants as vector
 use Rattle.td_question.specs.declared.fault.QuestionFault.{QuestionFault}
 use Rattle.td_question.specs.declared.fault.QuestionFault.TheVariants as question
 use Rattle.td_lines.specs.Texts.{newline, place_text}
+use Rattle.td_answer.specs.declared.difference.Difference.{Difference}
+use Rattle.td_answer.specs.declared.difference.Difference.TheVariants as difference
 use Rattle.td_answer.specs.declared.refusal.Refusal.{Refusal}
 use Rattle.td_answer.specs.declared.refusal.Refusal.TheVariants as refusal
 
@@ -173,6 +175,12 @@ unjoined_text (join.Crossed one other) = two_text one.now other.now (codes "no p
 unjoined_text (join.Gap cube) = gap_text cube
 unjoined_text (join.FalseNone one) = one_text one.now (codes "a leaf without a pair")
 
+-- in what parts are of another question than the one that is asked
+abbrev pub other_question_text : Difference → List ℕ
+other_question_text difference.Hold = codes "parts of another question: other inputs held"
+other_question_text difference.Flips = codes "parts of another question: other flips"
+other_question_text difference.Moments = codes "parts of another question: other input times"
+
 -- ---- the sentence
 
 abbrev pub reason_text : Refusal → List ℕ
@@ -186,6 +194,7 @@ reason_text (refusal.BadPart name fault) = bad_part_text name.now fault
 reason_text (refusal.Unaccepted name verdict) = unaccepted_text name.now verdict
 reason_text (refusal.OtherCircuit name) = other_circuit_text name.now
 reason_text (refusal.NotJoined fault) = unjoined_text fault
+reason_text (refusal.OtherQuestion found) = other_question_text found
 reason_text refusal.TooLong = codes "too many nodes"
 
 -- a line

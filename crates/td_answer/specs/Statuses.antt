@@ -58,4 +58,5 @@ status_of (refusal.BadPart name fault) = Refused
 status_of (refusal.Unaccepted name verdict) = Rejected
 status_of (refusal.OtherCircuit name) = Rejected
 status_of (refusal.NotJoined fault) = Rejected
+status_of (refusal.OtherQuestion difference) = Rejected
 status_of refusal.TooLong = Rejected

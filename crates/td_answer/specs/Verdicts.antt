@@ -7,7 +7,8 @@ use Rattle.td_circuit.specs.Run.{IsDelayOfBits}
 use Rattle.td_domain.specs.Pairs.{Pair}
 use Rattle.td_refutation.specs.Asking.{Asking, IsAskedAbout}
 use Rattle.td_reading.specs.declared.reading.Reading.{Reading}
-use Rattle.td_source.specs.Reads.{HasCircuit}
+use Rattle.td_reading.specs.declared.told.Told.{Told}
+use Rattle.td_circuit.specs.Loops.{Loop}
 use Rattle.td_certificate.specs.declared.certificate.Certificate.{Certificate}
 use Rattle.td_certificate.specs.Questions.{asking_of}
 use Rattle.td_certificate.specs.Accepts.{setting_of, AsksNone, IsBoundOf}
@@ -15,7 +16,7 @@ use Rattle.td_certificate.specs.Spelling.{Spells, version_in}
 use Rattle.td_checker.specs.declared.verdict.Verdict.{Verdict}
 use Rattle.td_checker.specs.declared.verdict.Verdict.TheVariants as verdict
 use Rattle.td_checker.specs.Verdicts.{verdict_number, verdict_name, verdict_line}
-use Rattle.td_checker.specs.Checks.{HaveVerdict, IsCheckFault}
+use Rattle.td_checker.specs.Checks.{AsksAbout, HaveVerdict, IsCheckFault}
 use Rattle.td_lines.specs.declared.line.Line.{Line}
 use Rattle.td_lines.specs.declared.line.Line.TheVariants as line
 use Rattle.td_answer.specs.Claims.{claim_lines, question_lines}
@@ -62,32 +63,33 @@ IsTrueClaim setting asking line.AcceptedNone = AsksNone setting.netlist asking
 IsTrueClaim setting asking other = ⊥
 
 -- The certificate is accepted: its text spells it, and of the pairs that it asks about, in the
--- netlist that is read of the text and with its moments, the first line is true. The others say
--- what it is about.
+-- netlist that it asks about and with its moments, the first line is true. The others say what it
+-- is about.
 pub record IsAccepted (text : List ℕ) (reading : Reading) (spelled : List ℕ) (report : List Line) : Type 0 where
   pub netlist : Netlist
-  pub circuit : HasCircuit text reading netlist
   pub certificate : Certificate
   pub spells : Spells certificate spelled
+  pub asks : AsksAbout text reading certificate netlist
+  pub acyclic : ¬ Loop netlist
   pub claim : Line
   pub is_true : IsTrueClaim (setting_of netlist certificate) (asking_of certificate.question) claim
   pub is : report ≡ claim ∷ question_lines (version_in certificate) certificate.question
 
 -- one line refuses the certificate, by its verdict
-pub record IsRejected (text : List ℕ) (reading : Reading) (spelled : List ℕ) (report : List Line) : Type 0 where
+pub record IsRejected (text : List ℕ) (reading : Reading) (told : Told) (spelled : List ℕ) (report : List Line) : Type 0 where
   pub found : Verdict
-  pub has : HaveVerdict text reading spelled found
+  pub has : HaveVerdict text reading told spelled found
   pub is : AreRefusedLines found report
 
 -- the request ends with status 0 where the certificate is accepted, and with no other where it
 -- isn't
-abbrev pub IsTrueVerdict : List ℕ → Reading → List ℕ → List Line → Status → Type 0
-IsTrueVerdict text reading spelled report status.Done = IsAccepted text reading spelled report
-IsTrueVerdict text reading spelled report status.Rejected = IsRejected text reading spelled report
-IsTrueVerdict text reading spelled report other = ⊥
+abbrev pub IsTrueVerdict : List ℕ → Reading → Told → List ℕ → List Line → Status → Type 0
+IsTrueVerdict text reading told spelled report status.Done = IsAccepted text reading spelled report
+IsTrueVerdict text reading told spelled report status.Rejected = IsRejected text reading told spelled report
+IsTrueVerdict text reading told spelled report other = ⊥
 
-abbrev pub IsTrueCheck : List ℕ → Reading → List ℕ → Outcome → Type 0
-IsTrueCheck text reading spelled outcome = IsTrueVerdict text reading spelled outcome.report outcome.status
+abbrev pub IsTrueCheck : List ℕ → Reading → Told → List ℕ → Outcome → Type 0
+IsTrueCheck text reading told spelled outcome = IsTrueVerdict text reading told spelled outcome.report outcome.status
 
 -- ---- why there is no verdict
 

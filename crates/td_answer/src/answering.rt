@@ -3,7 +3,8 @@
 ghost use Rattle.std.specs.Prelude.{◌≡◌, ◌⊎◌, slice_get, IfOk, IfErr, None as Nothing};
 ghost use Rattle.td_search.specs.Problems.{Problem};
 ghost use Rattle.td_question.specs.Asking.{IsAsked};
-ghost use Rattle.td_answer.specs.Outcomes.{IsPlain, IsCheckedTrue, IsRefusedChecked, IsSearchedTrue, IsCertifiedSearch, IsRefusedSearched, IsSearched, IsTrueOutcome, HasCertificate, IsRefused};
+ghost use Rattle.td_answer.specs.Searches.{IsRefusedSearch};
+ghost use Rattle.td_answer.specs.Outcomes.{IsPlain, IsCheckedTrue, IsRefusedChecked, IsSearchedTrue, IsCertifiedSearch, IsSearched, IsTrueOutcome, HasCertificate, IsRefused};
 ghost use Rattle.td_answer.specs.Writing.{CanBeWritten};
 
 use crate::bound::bounds;
@@ -91,7 +92,7 @@ fn searched<'n, 'w, W: Watch, R: Threads + Wait + Clock + Sync>(
     ensures says { IfOk result (IsSearchedTrue search.now.each text.now reading.now search.now) }
     ensures certified { IfOk result (IsCertifiedSearch search.now.each text.now reading.now search.now) }
     ensures written { IfOk result CanBeWritten }
-    ensures refusal { IfErr result (IsRefusedSearched search.now.each text.now reading.now search.now) }
+    ensures refusal { IfErr result (IsRefusedSearch text.now reading.now search.now) }
     ensures reported { (watch.new ≡ watch.old)
         ⊎ ((asked : Problem) × IsAsked text.now reading.now search.now.question asked.setting asked.admit × W.reported asked watch.old watch.new) }
 {
@@ -109,7 +110,7 @@ fn checked<'n, 'w>(
     asked: &Check<'w>,
     certificates: &[Vec<u8>],
 ) -> Result<Outcome, Refusal<'n, 'w>>
-    ensures says { IfOk result (IsCheckedTrue text.now reading.now (slice_get certificates.now 0)) }
+    ensures says { IfOk result (IsCheckedTrue text.now reading.now asked.now (slice_get certificates.now 0)) }
     ensures certified { IfOk result (λ outcome. outcome.certificate ≡ Nothing) }
     ensures written { IfOk result CanBeWritten }
     ensures refusal { IfErr result (IsRefusedChecked text.now reading.now asked.now (slice_get certificates.now 0)) }
@@ -117,5 +118,5 @@ fn checked<'n, 'w>(
     let Some(certificate) = certificates.first() else {
         return Err(Refusal::Unread(asked.certificate));
     };
-    verdict_on(alloc, text, reading, certificate)
+    verdict_on(alloc, text, reading, asked.told, certificate)
 }

@@ -61,7 +61,7 @@ fn push_answer(alloc: Global, report: &mut Report, answer: &Answer) -> Result<()
     }
 }
 
-fn vector_of(alloc: Global, bits: &[bool]) -> Result<Vector, AllocError>
+pub(crate) fn vector_of(alloc: Global, bits: &[bool]) -> Result<Vector, AllocError>
     ensures { IfOk result (λ vector. vector ≡ bits.now) }
 {
     let bits = Vec::from_slice(alloc, bits)?;
@@ -69,7 +69,7 @@ fn vector_of(alloc: Global, bits: &[bool]) -> Result<Vector, AllocError>
 }
 
 /// Appends the lines of an exact answer.
-pub(crate) fn push_exact(
+fn push_exact(
     alloc: Global,
     report: &mut Report,
     time: u64,

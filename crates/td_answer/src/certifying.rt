@@ -1,8 +1,8 @@
 //! The certificate of an exact answer.
 
-ghost use Rattle.std.specs.Prelude.{◌≡◌, ◌≤◌, ◌∷◌, [], length, option_map, None as Nothing, IfOk};
+ghost use Rattle.std.specs.Prelude.{◌≡◌, ◌≤◌, length, option_map, Some, None as Nothing, IfOk, IsTrue};
 ghost use Rattle.td_search.specs.Problems.{problem_by};
-ghost use Rattle.td_certificate.specs.Lengths.{CanTell};
+ghost use Rattle.td_certificate.specs.Lengths.{AreFew, CanTell};
 ghost use Rattle.td_certificate.specs.Spelling.{AreOutputs};
 ghost use Rattle.td_answer.specs.Certificates.{tells_terms, terms_in, certificate_in, CanBeTold};
 
@@ -12,39 +12,50 @@ use td_circuit::Circuit;
 use td_gates::{Delay, Level};
 use td_search::{Answer, Strategy, certificate_of};
 
-/// How a netlist was read: the delay of gates that state none, and the number of the output that is
-/// asked about, where one is.
-#[derive(Clone, Copy, Drop)]
+/// How a netlist was read: the delay of gates that state none, and the numbers of the outputs that are
+/// asked about, where some are.
+#[derive(Drop)]
 pub struct Read {
     pub default: Delay,
-    pub output: Option<usize>,
+    pub outputs: Option<Vec<u64>>,
 }
 
 /// Whether a certificate tells how the netlist is read.
-fn tells_terms(strategy: Strategy, output: Option<usize>, tree: &Tree) -> bool
-    ensures { result ≡ tells_terms strategy output tree.now }
+fn tells_terms(strategy: Strategy, some: bool, tree: &Tree) -> bool
+    ensures { result ≡ tells_terms strategy some tree.now }
 {
     match strategy {
         Strategy::Lead => true,
-        Strategy::Least => output.is_some() || tree.has_edges() || tree.has_refuted(),
+        Strategy::Least => some || tree.has_edges() || tree.has_refuted(),
     }
 }
 
-/// The numbers of the outputs that are asked about: none where all are. The error is out of memory.
-fn outputs_of(alloc: Global, output: Option<usize>) -> Result<Option<Vec<u64>>, AllocError>
-    ensures is { IfOk result (λ outputs. option_map (λ numbers. numbers.items) outputs ≡ option_map (λ number. number ∷ []) output) }
-    ensures few { IfOk result (λ outputs. AreOutputs (option_map (λ numbers. numbers.items) outputs)) }
+/// Whether numbers are few, at least one, and small enough for a text.
+fn are_fit(numbers: &[u64]) -> bool
+    ensures { IsTrue result → AreOutputs (Some numbers.now) × AreFew (Some numbers.now) }
 {
-    let Some(output) = output else {
-        return Ok(None);
-    };
-    // No netlist has so many outputs.
-    let Ok(number) = u32::try_from(output) else {
-        return Err(AllocError);
-    };
-    let mut numbers = Vec::new(alloc);
-    numbers.push(u64::from(number))?;
-    Ok(Some(numbers))
+    !numbers.is_empty()
+        && numbers.len() <= 10_000
+        && numbers
+            .iter()
+            .all(|number| *number <= 1_000_000_000_000_000_000)
+}
+
+/// The numbers of the outputs that are asked about: none where all are. The error is out of memory.
+fn outputs_of(outputs: Option<Vec<u64>>) -> Result<Option<Vec<u64>>, AllocError>
+    ensures is { IfOk result (λ found. found ≡ outputs) }
+    ensures few { IfOk result (λ found. AreOutputs (option_map (λ numbers. numbers.items) found) × AreFew (option_map (λ numbers. numbers.items) found)) }
+{
+    match outputs {
+        None => Ok(None),
+        Some(numbers) => {
+            if are_fit(&numbers) {
+                Ok(Some(numbers))
+            } else {
+                Err(AllocError)
+            }
+        }
+    }
 }
 
 /// The terms of the certificate of this tree, where it tells any. The error is out of memory.
@@ -57,15 +68,16 @@ fn terms_of(
     ensures terms { IfOk result (λ terms. terms ≡ terms_in strategy read tree.now) }
     ensures told { IfOk result (λ terms. CanTell tree.now terms) }
 {
-    if !tells_terms(strategy, read.output, tree) {
+    let Read { default, outputs } = read;
+    if !tells_terms(strategy, outputs.is_some(), tree) {
         return Ok(None);
     }
     // For the prover: this call says that the delays are in range.
-    let _steps = read.default.to(Level::X);
-    let outputs = outputs_of(alloc, read.output)?;
+    let _steps = default.to(Level::X);
+    let outputs = outputs_of(outputs)?;
     Ok(Some(Terms {
-        rise: read.default.rise,
-        fall: read.default.fall,
+        rise: default.rise,
+        fall: default.fall,
         outputs,
         keep: Vec::new(alloc),
     }))

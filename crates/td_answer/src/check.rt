@@ -10,9 +10,9 @@ use crate::refusal::Refusal;
 use crate::status::Status;
 use std::alloc::{AllocError, Global};
 use td_certificate::Certificate;
-use td_checker::{Verdict, check};
+use td_checker::{Verdict, check_told};
 use td_lines::{Line, Report};
-use td_reading::Reading;
+use td_reading::{Reading, Told};
 
 /// The report of a certificate that is refused.
 fn refused(alloc: Global, verdict: Verdict) -> Result<Report, AllocError>
@@ -55,14 +55,15 @@ pub(crate) fn verdict_on<'n, 'w>(
     alloc: Global,
     text: &'n [u8],
     reading: &Reading<'_>,
+    told: Told,
     certificate: &[u8],
 ) -> Result<Outcome, Refusal<'n, 'w>>
-    ensures says { IfOk result (IsTrueCheck text.now reading.now certificate.now) }
+    ensures says { IfOk result (IsTrueCheck text.now reading.now told certificate.now) }
     ensures certified { IfOk result (λ outcome. outcome.certificate ≡ Nothing) }
     ensures written { IfOk result CanBeWritten }
     ensures refusal { IfErr result (IsRefusedCheck text.now reading.now certificate.now) }
 {
-    let checked = check(alloc, text, reading, certificate)?;
+    let checked = check_told(alloc, text, reading, told, certificate)?;
     let report = report_of(alloc, checked.verdict, &checked.certificate)?;
     Ok(Outcome {
         report,

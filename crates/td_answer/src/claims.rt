@@ -6,7 +6,7 @@ ghost use Rattle.td_certificate.specs.Plain.{has_level};
 ghost use Rattle.td_certificate.specs.declared.question.Version.TheVariants as of_version;
 ghost use Rattle.td_certificate.specs.Spelling.{DefaultField, OutputField, FirstField, SecondField, HoldField, FlipsField, AtField, KeepField, fields_of};
 ghost use Rattle.td_lines.specs.declared.line.Line.TheVariants as line;
-ghost use Rattle.td_answer.specs.Claims.{accepted_line, claimed_line, output_number, field_line, told_line, question_lines, claim_lines};
+ghost use Rattle.td_answer.specs.Claims.{accepted_line, claimed_line, field_line, told_line, question_lines, claim_lines};
 
 use crate::conditions::conditions;
 use crate::pins::{marks, trits};
@@ -56,16 +56,6 @@ fn is_at_once(moments: &[u64]) -> bool
     moments.iter().all(|moment| *moment == 0)
 }
 
-/// The number of the output that is asked about, where one is.
-fn output_number(terms: &Terms) -> Option<u64>
-    ensures { result ≡ output_number terms.now.outputs }
-{
-    match &terms.outputs {
-        None => None,
-        Some(numbers) => numbers.first().copied(),
-    }
-}
-
 /// The line of the moments of inputs.
 fn moments_line(alloc: Global, question: &Question) -> Result<Line, AllocError>
     ensures { IfOk result (λ line. line ≡ field_line question.now AtField) }
@@ -113,26 +103,29 @@ fn tell_default(report: &mut Report, terms: &Terms) -> Result<(), AllocError>
     })
 }
 
-/// Appends which output is asked about, where one is.
-fn tell_output(report: &mut Report, terms: &Terms) -> Result<(), AllocError>
+/// Appends which outputs are asked about, where some are.
+fn tell_outputs(alloc: Global, report: &mut Report, terms: &Terms) -> Result<(), AllocError>
     ensures { OnOk result (report.new ≡ report.old ++
-        (if is_some terms.now.outputs then line.OutputNumber (output_number terms.now.outputs) ∷ [] else [])) }
+        (if is_some terms.now.outputs then line.OutputNumbers terms.now.outputs ∷ [] else [])) }
 {
-    if terms.outputs.is_none() {
-        return Ok(());
+    match &terms.outputs {
+        None => Ok(()),
+        Some(numbers) => {
+            let numbers = Vec::from_slice(alloc, numbers)?;
+            report.add(Line::OutputNumbers(Some(Moments::new(numbers))))
+        }
     }
-    report.add(Line::OutputNumber(output_number(terms)))
 }
 
 /// Appends how the netlist is read, where that isn't plain.
-fn tell_terms(report: &mut Report, question: &Question) -> Result<(), AllocError>
+fn tell_terms(alloc: Global, report: &mut Report, question: &Question) -> Result<(), AllocError>
     ensures { OnOk result (report.new ≡ report.old ++ (told_line question.now DefaultField ++ told_line question.now OutputField)) }
 {
     match question.terms() {
         None => Ok(()),
         Some(terms) => {
             tell_default(report, terms)?;
-            tell_output(report, terms)
+            tell_outputs(alloc, report, terms)
         }
     }
 }
@@ -209,7 +202,7 @@ fn tell_keep(alloc: Global, report: &mut Report, question: &Question) -> Result<
 fn tell_all(alloc: Global, report: &mut Report, question: &Question) -> Result<(), AllocError>
     ensures { OnOk result (report.new ≡ report.old ++ question_lines of_version.Fourth question.now) }
 {
-    tell_terms(report, question)?;
+    tell_terms(alloc, report, question)?;
     tell_first(alloc, report, question)?;
     tell_second(alloc, report, question)?;
     tell_held(alloc, report, question)?;
@@ -219,7 +212,7 @@ fn tell_all(alloc: Global, report: &mut Report, question: &Question) -> Result<(
 }
 
 /// Appends the lines that say what a certificate is about, as its text of this version has them.
-fn push_question(
+pub(crate) fn push_question(
     alloc: Global,
     report: &mut Report,
     version: Version,

@@ -1,13 +1,14 @@
 //! The worst delay of each output by itself, as a table.
 
-ghost use Rattle.std.specs.Prelude.{◌≡◌, ◌*◌, length, map, IfOk, IfErr, OnOk, None as Nothing};
+ghost use Rattle.std.specs.Prelude.{◌≡◌, ◌<◌, ◌*◌, length, slice_get, Some, IfOk, IfErr, OnOk, None as Nothing};
+ghost use Rattle.std.specs.List.{AllZip};
+ghost use Rattle.td_nets.specs.Netlist.{Name as Named};
 ghost use Rattle.td_circuit.specs.Numbering.{setting};
 ghost use Rattle.td_certificate.specs.declared.tree.BoundedBy.TheVariants as by;
-ghost use Rattle.td_answer.specs.Names.{label};
 ghost use Rattle.td_answer.specs.Additions.{AddsLines};
 ghost use Rattle.td_answer.specs.Bounds.{IsSoundBound};
 ghost use Rattle.td_answer.specs.Searches.{IsRefusedSearch};
-ghost use Rattle.td_answer.specs.Tables.{found_of, is_exact, table_ending, IsOutline, AreTrueFigures, IsTrueRow, AreRows, AreEach, RowFails, HasNoRow, IsTrueTable, IsRefusedTable};
+ghost use Rattle.td_answer.specs.Tables.{found_of, is_exact, table_ending, AreTrueFigures, IsTrueRow, AreEach, IsUnanswered, IsTrueTable};
 ghost use Rattle.td_answer.specs.Writing.{CanBeWritten};
 
 use crate::head::begun;
@@ -21,56 +22,21 @@ use std::sync::Wait;
 use std::thread::Threads;
 use std::time::Clock;
 use td_circuit::Circuit;
-use td_domain::{Cube, bound};
+use td_domain::{Admit, Cube, bound};
 use td_edges::Edges;
-use td_lines::{Found, Label, Line, Report, Row};
+use td_lines::{Found, Line, Report, Row};
 use td_pool::Unwatched;
-use td_question::question_of;
+use td_question::{Asked, question_of};
 use td_reading::Reading;
 use td_request::Search;
 use td_search::Answer;
-
-/// What is known before the first search: the first lines of the report, and the names of the
-/// outputs in order.
-#[derive(Drop)]
-struct Outline {
-    report: Report,
-    names: Vec<Label>,
-}
+use td_source::EachOutput;
 
 /// What is found of an output: its worst delay, and its bound by edges.
 #[derive(Clone, Copy, Debug)]
 struct Timing {
     found: Found,
     edges: Option<u64>,
-}
-
-/// The names of the outputs, in order.
-fn labels(alloc: Global, circuit: &Circuit) -> Result<Vec<Label>, AllocError>
-    ensures { IfOk result (λ names. names.items ≡ map label circuit.now.netlist.outputs) }
-{
-    let _gates = circuit.gates();
-    let mut names = Vec::new(alloc);
-    for output in circuit.outputs() {
-        let name = label(alloc, circuit.name(*output as usize))?;
-        names.push(name)?;
-    }
-    Ok(names)
-}
-
-fn outline_of<'n, 'w>(
-    alloc: Global,
-    text: &'n [u8],
-    reading: &Reading<'_>,
-    search: &Search<'w>,
-) -> Result<Outline, Refusal<'n, 'w>>
-    ensures outline { IfOk result (λ outline. IsOutline text.now reading.now outline.report outline.names.items) }
-    ensures refusal { IfErr result (IsRefusedSearch text.now reading.now search.now) }
-{
-    let asked = question_of(alloc, text, reading, &search.question)?;
-    let report = begun(alloc, &asked.circuit)?;
-    let names = labels(alloc, &asked.circuit)?;
-    Ok(Outline { report, names })
 }
 
 /// What an answer says of the worst delay.
@@ -95,24 +61,24 @@ fn edges_of(alloc: Global, circuit: &Circuit, cube: &Cube) -> Result<Option<u64>
     Ok(edges)
 }
 
-/// What is found of what a request asks of a text that is read so.
+/// What is found of the admitted pairs of a circuit.
 fn timing_of<'n, 'w, R: Threads + Wait + Clock + Sync>(
     rt: &R,
     alloc: Global,
-    text: &'n [u8],
-    reading: &Reading<'_>,
+    circuit: &Circuit,
+    admit: &Admit,
     search: &Search<'w>,
 ) -> Result<Timing, Refusal<'n, 'w>>
-    ensures timing { IfOk result (λ timing. AreTrueFigures text.now reading.now search.now timing.found timing.edges) }
-    ensures refusal { IfErr result (IsRefusedSearch text.now reading.now search.now) }
+    requires held { length admit.now.held ≡ length circuit.now.netlist.inputs }
+    ensures timing { IfOk result (λ timing. AreTrueFigures (setting circuit.now) admit.now timing.found timing.edges) }
+    ensures refusal { IfErr result (IsUnanswered search.now admit.now) }
 {
-    let asked = question_of(alloc, text, reading, &search.question)?;
-    let edges = edges_of(alloc, &asked.circuit, asked.admit.pins())?;
+    let edges = edges_of(alloc, circuit, admit.pins())?;
     let answer = td_worst::worst(
         rt,
         alloc,
-        &asked.circuit,
-        &asked.admit,
+        circuit,
+        admit,
         method_of(search.strategy),
         effort_of(&search.effort),
         &mut Unwatched,
@@ -123,46 +89,48 @@ fn timing_of<'n, 'w, R: Threads + Wait + Clock + Sync>(
     })
 }
 
-/// The row of the output of this name: the request is asked about this output alone.
+/// The row of the output at this place, which is asked about alone.
 fn row_of<'n, 'w, R: Threads + Wait + Clock + Sync>(
     rt: &R,
     alloc: Global,
-    text: &'n [u8],
-    reading: &Reading<'_>,
+    outputs: &mut EachOutput,
+    place: usize,
+    admit: &Admit,
     search: &Search<'w>,
-    name: &str,
 ) -> Result<Row, Refusal<'n, 'w>>
-    ensures row { IfOk result (IsTrueRow text.now reading.now search.now name.now) }
-    ensures refusal { IfErr result (RowFails text.now reading.now search.now name.now) }
+    requires place { place < length outputs.old.whole.netlist.outputs }
+    requires held { length admit.now.held ≡ length outputs.old.whole.netlist.inputs }
+    ensures row { IfOk result (λ row. (output : Named) → slice_get outputs.old.whole.netlist.outputs place ≡ Some output
+        → IsTrueRow (setting outputs.old.whole) admit.now output row) }
+    ensures whole { outputs.new.whole ≡ outputs.old.whole }
+    ensures refusal { IfErr result (IsUnanswered search.now admit.now) }
 {
-    let alone = Reading {
-        default: reading.default,
-        output: Some(name),
-    };
-    let timing = timing_of(rt, alloc, text, &alone, search)?;
-    let name = String::from_str(alloc, name)?;
+    let output = label(alloc, &outputs.names()[place])?;
+    outputs.ask(alloc, place)?;
+    let Timing { found, edges } = timing_of(rt, alloc, outputs.circuit(), admit, search)?;
     Ok(Row {
-        output: Label::new(name),
-        found: timing.found,
-        edges: timing.edges,
+        output,
+        found,
+        edges,
     })
 }
 
-/// A row for each of the outputs of these names, in order.
+/// A row for each output, in order.
 fn rows<'n, 'w, R: Threads + Wait + Clock + Sync>(
     rt: &R,
     alloc: Global,
-    text: &'n [u8],
-    reading: &Reading<'_>,
+    outputs: &mut EachOutput,
+    admit: &Admit,
     search: &Search<'w>,
-    names: &[Label],
 ) -> Result<Vec<Row>, Refusal<'n, 'w>>
-    ensures rows { IfOk result (λ rows. AreRows text.now reading.now search.now names.now rows.items) }
-    ensures refusal { IfErr result (HasNoRow text.now reading.now search.now names.now) }
+    requires held { length admit.now.held ≡ length outputs.old.whole.netlist.inputs }
+    ensures rows { IfOk result (λ rows. AllZip (IsTrueRow (setting outputs.old.whole) admit.now) outputs.old.whole.netlist.outputs rows.items) }
+    ensures refusal { IfErr result (IsUnanswered search.now admit.now) }
 {
+    let count = outputs.names().len();
     let mut rows = Vec::new(alloc);
-    for name in names {
-        let row = row_of(rt, alloc, text, reading, search, name.text())?;
+    for place in 0..count {
+        let row = row_of(rt, alloc, outputs, place, admit, search)?;
         rows.push(row)?;
     }
     Ok(rows)
@@ -211,12 +179,13 @@ pub(crate) fn table<'n, 'w, R: Threads + Wait + Clock + Sync>(
     ensures says { IfOk result (IsTrueTable text.now reading.now search.now) }
     ensures certified { IfOk result (λ outcome. outcome.certificate ≡ Nothing) }
     ensures written { IfOk result CanBeWritten }
-    ensures refusal { IfErr result (IsRefusedTable text.now reading.now search.now) }
+    ensures refusal { IfErr result (IsRefusedSearch text.now reading.now search.now) }
 {
-    let Outline { report, names } = outline_of(alloc, text, reading, search)?;
-    let rows = rows(rt, alloc, text, reading, search, &names)?;
+    let Asked { circuit, admit, .. } = question_of(alloc, text, reading, &search.question)?;
+    let mut report = begun(alloc, &circuit)?;
+    let mut outputs = EachOutput::of(alloc, circuit)?;
+    let rows = rows(rt, alloc, &mut outputs, &admit, search)?;
     let status = ending(&rows);
-    let mut report = report;
     push_rows(&mut report, rows)?;
     Ok(Outcome {
         report,

@@ -5,7 +5,7 @@ ghost use Rattle.td_nets.specs.Netlist.{Netlist};
 ghost use Rattle.td_reading.specs.declared.reading.Reading.{Reading as Read};
 ghost use Rattle.td_certificate.specs.Spelling.{Spells};
 ghost use Rattle.td_checker.specs.declared.verdict.Verdict.TheVariants as found;
-ghost use Rattle.td_checker.specs.Checks.{HaveVerdict};
+ghost use Rattle.td_checker.specs.Checks.{told_all, HaveVerdict};
 ghost use Rattle.td_answer.specs.Joins.{texts_of, TellsPart, TellsNoPart, LacksPart, AreParts, HasNoPart};
 ghost use Rattle.td_answer.specs.Unjoined.{IsOfPart, unjudged, TellsPartOf};
 
@@ -62,7 +62,7 @@ fn accepted_part<'n, 'w>(
     spelled: &[u8],
 ) -> Result<Certificate, Refusal<'n, 'w>>
     ensures spelled { IfOk result (λ part. Spells part spelled.now) }
-    ensures accepted { IfOk result (λ part. HaveVerdict text.now reading.now spelled.now found.Accepted) }
+    ensures accepted { IfOk result (λ part. HaveVerdict text.now reading.now told_all spelled.now found.Accepted) }
     ensures refusal { IfErr result (λ reason. (netlist : Netlist) → TellsNoPart text.now reading.now netlist true name.now spelled.now reason) }
 {
     let checked = match check(alloc, text, reading, spelled) {
@@ -85,7 +85,7 @@ fn judged_part<'n, 'w>(
     spelled: &[u8],
 ) -> Result<Certificate, Refusal<'n, 'w>>
     ensures spelled { IfOk result (λ part. Spells part spelled.now) }
-    ensures accepted { IfOk result (λ part. is_checked ≡ true → HaveVerdict text.now reading.now spelled.now found.Accepted) }
+    ensures accepted { IfOk result (λ part. is_checked ≡ true → HaveVerdict text.now reading.now told_all spelled.now found.Accepted) }
     ensures refusal { IfErr result (λ reason. (netlist : Netlist) → TellsNoPart text.now reading.now netlist is_checked name.now spelled.now reason) }
 {
     if is_checked {

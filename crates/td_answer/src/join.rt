@@ -1,30 +1,28 @@
 //! Certificates of the parts of a question, joined into one.
 
-ghost use Rattle.std.specs.Prelude.{◌≡◌, ◌≤◌, ◌++◌, [], All, get_or, length, map, None, IfOk, IfErr, OnOk};
+ghost use Rattle.std.specs.Prelude.{◌≡◌, ◌≤◌, [], All, get_or, length, map, IfOk, IfErr};
 ghost use Rattle.td_nets.specs.Netlist.{Netlist};
 ghost use Rattle.td_certificate.specs.Accepts.{Accepts};
 ghost use Rattle.td_certificate.specs.Spelling.{HasSpelling};
 ghost use Rattle.td_join.specs.Joining.{IsJoined};
-ghost use Rattle.td_join.specs.Faults.{IsJoinFault, renamed};
-ghost use Rattle.td_answer.specs.Heads.{head_lines};
-ghost use Rattle.td_answer.specs.Lines.{whole_lines};
-ghost use Rattle.td_answer.specs.Joins.{texts_of, whole_pins, most_nodes, IsUnjoinedFor, IsTrueJoin, IsRefusedJoin};
+ghost use Rattle.td_join.specs.Faults.{renamed};
+ghost use Rattle.td_answer.specs.Differences.{AsksSame};
+ghost use Rattle.td_answer.specs.Joins.{texts_of, most_nodes, IsUnjoinedFor, IsTrueJoin, IsRefusedJoin};
 ghost use Rattle.td_answer.specs.Unjoined.{IsOfUnjoined};
 ghost use Rattle.td_answer.specs.Writing.{CanBeWritten};
 
-use crate::answers::push_exact;
+use crate::difference::differing;
 use crate::gathering::parts_in;
-use crate::head::begun;
+use crate::joined::joined;
 use crate::outcome::Outcome;
 use crate::refusal::Refusal;
 use crate::status::Status;
-use std::alloc::{AllocError, Global};
-use td_certificate::{Certificate, Claim, Tree};
+use std::alloc::Global;
+use td_certificate::Certificate;
 use td_circuit::Circuit;
-use td_domain::Cube;
-use td_join::{JoinFault, join as join_all, join_in};
-use td_lines::{Line, Report};
-use td_question::pins_of;
+use td_domain::Admit;
+use td_join::{JoinFault, join_in};
+use td_question::question_of;
 use td_reading::Reading;
 use td_request::{Join, MOST_NODES};
 
@@ -73,23 +71,6 @@ fn named<'w>(fault: JoinFault<usize>, names: &[&'w str]) -> JoinFault<&'w str>
     }
 }
 
-/// Parts joined into one certificate with these pins, or with the least that have the pins of all.
-fn joined_with(
-    alloc: Global,
-    parts: Vec<Certificate>,
-    pins: &Option<Cube>,
-) -> Result<Certificate, JoinFault<usize>>
-    ensures joined { IfOk result (IsJoined parts.items (whole_pins pins.now parts.items)) }
-    ensures accepted { IfOk result (λ whole. (any : Netlist) → All (Accepts any) parts.items → Accepts any whole) }
-    ensures spelled { IfOk result (λ whole. All HasSpelling parts.items → HasSpelling whole) }
-    ensures fault { IfErr result (IsJoinFault parts.items (whole_pins pins.now parts.items)) }
-{
-    match pins {
-        None => join_all(alloc, parts),
-        Some(pins) => join_in(alloc, parts, pins),
-    }
-}
-
 /// Why parts aren't joined, by the names of their files.
 fn unjoined<'n, 'w>(fault: JoinFault<usize>, names: &[&'w str]) -> Refusal<'n, 'w>
     ensures { IsOfUnjoined (map (λ name. name.now) names.now) fault result }
@@ -100,63 +81,37 @@ fn unjoined<'n, 'w>(fault: JoinFault<usize>, names: &[&'w str]) -> Refusal<'n, '
     Refusal::NotJoined(named(fault, names))
 }
 
-/// What parts are joined into, in the files of these names.
+/// What parts are joined into, in the files of these names: a certificate of the question about a
+/// circuit and these pairs.
 fn whole_of<'n, 'w>(
     alloc: Global,
     parts: Vec<Certificate>,
-    pins: &Option<Cube>,
+    circuit: &Circuit,
+    admit: &Admit,
     names: &[&'w str],
 ) -> Result<Certificate, Refusal<'n, 'w>>
-    ensures joined { IfOk result (IsJoined parts.items (whole_pins pins.now parts.items)) }
+    ensures joined { IfOk result (IsJoined parts.items admit.now.pins) }
+    ensures asked { IfOk result (λ whole. AsksSame circuit.now.moments admit.now whole.question) }
     ensures accepted { IfOk result (λ whole. (any : Netlist) → All (Accepts any) parts.items → Accepts any whole) }
     ensures spelled { IfOk result (λ whole. All HasSpelling parts.items → HasSpelling whole) }
     ensures few { IfOk result (λ whole. length whole.tree ≤ most_nodes) }
-    ensures refusal { IfErr result (IsUnjoinedFor (map (λ name. name.now) names.now) parts.items (whole_pins pins.now parts.items)) }
+    ensures refusal { IfErr result (IsUnjoinedFor (map (λ name. name.now) names.now) parts.items circuit.now.moments admit.now) }
 {
-    let whole = match joined_with(alloc, parts, pins) {
+    let whole = match join_in(alloc, parts, admit.pins()) {
         Ok(whole) => whole,
         Err(fault) => return Err(unjoined(fault, names)),
     };
     if whole.tree.nodes().len() > MOST_NODES as usize {
         return Err(Refusal::TooLong);
     }
-    Ok(whole)
-}
-
-/// Appends that no pair is admitted.
-fn push_none(report: &mut Report, tree: &Tree) -> Result<(), AllocError>
-    ensures { OnOk result (report.new ≡ report.old ++ whole_lines None (length tree.now)) }
-{
-    let nodes = tree.nodes();
-    report.add(Line::NoPair)?;
-    report.add(Line::Nodes(nodes.len() as u64))
-}
-
-/// Appends what a whole claims, and the number of its nodes.
-fn push_whole(
-    alloc: Global,
-    report: &mut Report,
-    claim: &Option<Claim>,
-    tree: &Tree,
-) -> Result<(), AllocError>
-    ensures { OnOk result (report.new ≡ report.old ++ whole_lines claim.now (length tree.now)) }
-{
-    match claim {
-        None => push_none(report, tree),
-        Some(claim) => push_exact(alloc, report, claim.time, &claim.pair, tree),
+    match differing(circuit, admit, &whole.question) {
+        None => Ok(whole),
+        Some(difference) => Err(Refusal::OtherQuestion(difference)),
     }
 }
 
-/// The report of a whole.
-fn report_of(alloc: Global, circuit: &Circuit, whole: &Certificate) -> Result<Report, AllocError>
-    ensures { IfOk result (λ report. report ≡ head_lines circuit.now.netlist ++ whole_lines whole.now.claim (length whole.now.tree)) }
-{
-    let mut report = begun(alloc, circuit)?;
-    push_whole(alloc, &mut report, &whole.claim, &whole.tree)?;
-    Ok(report)
-}
-
-/// What the parts of a question about a text's netlist are joined into.
+/// What the parts of a question about a text's netlist are joined into: the whole of the question
+/// that is asked.
 pub(crate) fn join<'n, 'w>(
     alloc: Global,
     text: &'n [u8],
@@ -168,21 +123,21 @@ pub(crate) fn join<'n, 'w>(
     ensures written { IfOk result CanBeWritten }
     ensures refusal { IfErr result (IsRefusedJoin text.now reading.now asked.now (texts_of certificates.now)) }
 {
-    let pinned = pins_of(alloc, text, reading, &asked.inputs)?;
+    let sought = question_of(alloc, text, reading, &asked.question)?;
     // For the prover: this call says that the netlist is well-formed.
-    let _gates = pinned.circuit.gates();
+    let _gates = sought.circuit.gates();
     let names = asked.parts.names();
     let parts = parts_in(
         alloc,
         text,
         reading,
-        &pinned.circuit,
+        &sought.circuit,
         asked.check,
         names,
         certificates,
     )?;
-    let whole = whole_of(alloc, parts, &pinned.pins, names)?;
-    let report = report_of(alloc, &pinned.circuit, &whole)?;
+    let whole = whole_of(alloc, parts, &sought.circuit, &sought.admit, names)?;
+    let report = joined(alloc, &sought.circuit, asked.check, &whole)?;
     Ok(Outcome {
         report,
         certificate: Some(whole),

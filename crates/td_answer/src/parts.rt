@@ -1,8 +1,9 @@
 //! The parts of a question, as options by which `worst` searches them.
 
 ghost use Rattle.std.specs.Prelude.{◌≡◌, ◌∷◌, ◌++◌, [], map, decimal, IfOk, IfErr, OnOk, None as Nothing};
+ghost use Rattle.std.specs.List.{flat_map};
 ghost use Rattle.td_inputs.specs.Placings.{words_by_place, text_of};
-ghost use Rattle.td_answer.specs.Parts.{given_words, flips_words, default_words, pins_words, question_words, reading_words, part_words, HasParts, IsTrueParts, IsRefusedParts};
+ghost use Rattle.td_answer.specs.Parts.{given_words, flips_words, default_words, pins_words, question_words, output_words, reading_words, part_words, HasParts, IsTrueParts, IsRefusedParts};
 ghost use Rattle.td_answer.specs.Writing.{CanBeWritten};
 
 use crate::outcome::Outcome;
@@ -119,6 +120,16 @@ fn push_question(
     push_given(alloc, words, "--at", placed.at.as_deref())
 }
 
+/// Appends the option of each output that is asked about.
+fn push_outputs(alloc: Global, words: &mut Vec<Label>, names: &[&str]) -> Result<(), AllocError>
+    ensures { OnOk result (words.new.items ≡ words.old.items ++ flat_map output_words names.now) }
+{
+    for name in names {
+        push_option(alloc, words, "--output", name)?;
+    }
+    Ok(())
+}
+
 /// Appends how the netlist's text is read.
 fn push_reading(
     alloc: Global,
@@ -129,7 +140,7 @@ fn push_reading(
 {
     push_default(alloc, words, "--default-rise", reading.default.rise)?;
     push_default(alloc, words, "--default-fall", reading.default.fall)?;
-    push_given(alloc, words, "--output", reading.output)
+    push_outputs(alloc, words, reading.outputs.names())
 }
 
 /// The options of one part.

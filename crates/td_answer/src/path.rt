@@ -9,7 +9,8 @@ ghost use Rattle.td_path.specs.Chains.{IsRunFor};
 ghost use Rattle.td_answer.specs.Heads.{head_lines};
 ghost use Rattle.td_answer.specs.Runs.{TellsOutput, IsStill};
 ghost use Rattle.td_answer.specs.Additions.{AddsLines, IsOutputNamed, TellsNet, NeverChanges, waves_in};
-ghost use Rattle.td_answer.specs.Paths.{ReportsPath, HasNoneNamed, IsTruePath, IsRefusedPath};
+ghost use Rattle.td_source.specs.Reads.{HasNoneNamed};
+ghost use Rattle.td_answer.specs.Paths.{ReportsPath, IsTruePath, IsRefusedPath};
 ghost use Rattle.td_answer.specs.Writing.{CanBeWritten};
 
 use crate::beside::{changes_line, latest_line};

@@ -4,6 +4,7 @@ ghost use Rattle.std.specs.Prelude.{◌≡◌};
 ghost use Rattle.td_answer.specs.Statuses.{source_status, question_status, search_status, check_status, status_of};
 ghost use Rattle.td_answer.specs.declared.refusal.Refusal.TheVariants as refusal;
 
+use crate::difference::Difference;
 use crate::status::Status;
 use std::alloc::{AllocError, AllocFailed};
 use td_certificate::CertFault;
@@ -37,6 +38,8 @@ pub enum Refusal<'n, 'w> {
     OtherCircuit(&'w str),
     /// The parts aren't joined. The fault names their files.
     NotJoined(JoinFault<&'w str>),
+    /// The parts are of another question than the one that is asked.
+    OtherQuestion(Difference),
     /// What the parts are joined into has more than 10,000,000 nodes.
     TooLong,
 }
@@ -141,6 +144,7 @@ impl<'n, 'w> Refusal<'n, 'w> {
             Refusal::Unaccepted(..) => Status::Rejected,
             Refusal::OtherCircuit(_) => Status::Rejected,
             Refusal::NotJoined(_) => Status::Rejected,
+            Refusal::OtherQuestion(_) => Status::Rejected,
             Refusal::TooLong => Status::Rejected,
         }
     }

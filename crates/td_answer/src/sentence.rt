@@ -6,7 +6,7 @@ ghost use Rattle.td_lines.specs.Texts.{place_text};
 ghost use Rattle.td_answer.specs.Refusals.{unread_text, loop_text, netlist_text, fault_text, number_and_name, token_text, source_text, question_text, search_text, certificate_fault_text, certificate_text, check_text, refusing_text, bad_part_text, unaccepted_text, other_circuit_text, reason_text, refusal_text};
 
 use crate::refusal::Refusal;
-use crate::unjoined::unjoined;
+use crate::unjoined::{other_question, unjoined};
 use crate::words;
 use std::alloc::AllocError;
 use td_certificate::CertFault;
@@ -43,6 +43,7 @@ impl<'n, 'w> Refusal<'n, 'w> {
             Refusal::Unaccepted(name, verdict) => unaccepted(out, name, *verdict),
             Refusal::OtherCircuit(name) => other_circuit(out, name),
             Refusal::NotJoined(fault) => unjoined(out, fault),
+            Refusal::OtherQuestion(difference) => other_question(out, *difference),
             Refusal::TooLong => out.push(b"too many nodes"),
         }
     }

@@ -1,8 +1,9 @@
 //! Why the parts of a question aren't joined.
 
 ghost use Rattle.std.specs.Prelude.{◌≡◌, ◌++◌, OnOk};
-ghost use Rattle.td_answer.specs.Refusals.{two_text, one_text, gap_text, unjoined_text};
+ghost use Rattle.td_answer.specs.Refusals.{two_text, one_text, gap_text, unjoined_text, other_question_text};
 
+use crate::difference::Difference;
 use crate::pins;
 use std::alloc::AllocError;
 use td_domain::Cube;
@@ -54,5 +55,16 @@ pub(crate) fn unjoined(out: &mut Text, fault: &JoinFault<&str>) -> Result<(), Al
         JoinFault::Crossed(this, that) => two(out, this, that, b"no position parts them"),
         JoinFault::Gap(cube) => gap(out, cube),
         JoinFault::FalseNone(this) => one(out, this, b"a leaf without a pair"),
+    }
+}
+
+/// In what parts are of another question than the one that is asked.
+pub(crate) fn other_question(out: &mut Text, difference: Difference) -> Result<(), AllocError>
+    ensures { OnOk result (out.new ≡ out.old ++ other_question_text difference) }
+{
+    match difference {
+        Difference::Hold => out.push(b"parts of another question: other inputs held"),
+        Difference::Flips => out.push(b"parts of another question: other flips"),
+        Difference::Moments => out.push(b"parts of another question: other input times"),
     }
 }

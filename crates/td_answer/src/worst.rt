@@ -11,7 +11,7 @@ ghost use Rattle.td_answer.specs.Lines.{answer_lines, ending_of, pair_in};
 ghost use Rattle.td_answer.specs.Runs.{RunsPair, TellsPair};
 ghost use Rattle.td_answer.specs.Dumps.{IsDumpWhere};
 ghost use Rattle.td_answer.specs.Additions.{AddsLines};
-ghost use Rattle.td_answer.specs.Certificates.{certificate_in, CanBeTold};
+ghost use Rattle.td_answer.specs.Certificates.{read_by, certificate_in, CanBeTold};
 ghost use Rattle.td_answer.specs.Sentences.{IsTrueWorst};
 ghost use Rattle.td_answer.specs.Certified.{IsCertified};
 ghost use Rattle.td_answer.specs.Searches.{IsRefusedSearch};
@@ -30,6 +30,7 @@ use std::time::Clock;
 use td_certificate::Question;
 use td_circuit::Circuit;
 use td_domain::Pair;
+use td_gates::Delay;
 use td_lines::Report;
 use td_pool::{Effort, Watch};
 use td_question::{Asked, question_of};
@@ -113,7 +114,7 @@ fn reported(
 fn outcome_of(
     alloc: Global,
     asked: Asked,
-    read: Read,
+    default: Delay,
     strategy: Strategy,
     answer: Answer,
     search: &Search<'_>,
@@ -123,18 +124,24 @@ fn outcome_of(
     requires second_fits { length (pair_in answer).second ≡ length asked.circuit.netlist.inputs }
     ensures report { IfOk result (λ outcome. AddsLines (TellsPair search.now.shown (setting asked.circuit) (pair_in answer))
         (head_lines asked.circuit.netlist ++ answer_lines answer) outcome.report) }
-    ensures certified { IfOk result (λ outcome. outcome.certificate ≡ certificate_in read (problem_by strategy asked.circuit asked.admit) answer) }
-    ensures told { IfOk result (λ outcome. CanBeTold read strategy answer) }
+    ensures certified { IfOk result (λ outcome. outcome.certificate ≡ certificate_in (read_by default asked.outputs) (problem_by strategy asked.circuit asked.admit) answer) }
+    ensures told { IfOk result (λ outcome. CanBeTold (read_by default asked.outputs) strategy answer) }
     ensures dumped { IfOk result (λ outcome. IsDumpWhere (is_some search.now.dump) (setting asked.circuit)
         (RunsPair (setting asked.circuit) (pair_in answer)) outcome.dump) }
     ensures status { IfOk result (λ outcome. outcome.status ≡ ending_of answer) }
 {
-    let Asked { circuit, admit, .. } = asked;
+    let Asked {
+        circuit,
+        admit,
+        outputs,
+        ..
+    } = asked;
     let report = reported(alloc, &circuit, &answer, search.shown)?;
     let status = ending_of(&answer);
     let pair = pair_in(&answer).copy(alloc)?;
     let moments = Vec::from_slice(alloc, circuit.moments())?;
     let question = Question::new(admit, moments);
+    let read = Read { default, outputs };
     let certificate = certificate(alloc, &circuit, question, read, strategy, answer)?;
     let dump = dump_of(alloc, circuit, &pair, search.dump.is_some())?;
     Ok(Outcome {
@@ -174,10 +181,13 @@ pub(crate) fn worst<'n, 'w, W: Watch, R: Threads + Wait + Clock + Sync>(
         effort,
         watch,
     )?;
-    let read = Read {
-        default: reading.default,
-        output: asked.output,
-    };
-    let outcome = outcome_of(alloc, asked, read, method.strategy(), answer, search)?;
+    let outcome = outcome_of(
+        alloc,
+        asked,
+        reading.default,
+        method.strategy(),
+        answer,
+        search,
+    )?;
     Ok(outcome)
 }

@@ -4,6 +4,7 @@ pub mod Turning
 pub mod StepLaws
 pub mod Lines
 pub mod Reported
+pub mod Questions
 pub mod Texts
 pub mod Written
 pub mod PairCubes

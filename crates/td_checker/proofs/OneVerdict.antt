@@ -7,7 +7,12 @@ use Rattle.std.proofs.lemmas.List.{append-nil, length-set}
 use Rattle.td_nets.specs.Netlist.{Netlist}
 use Rattle.td_circuit.specs.Settings.{Setting}
 use Rattle.td_refutation.specs.Asking.{Asking}
-use Rattle.td_source.proofs.Naming.{reads_one, one_output}
+use Rattle.td_netlist.proofs.Readings.{one_netlist}
+use Rattle.td_reading.specs.declared.reading.Reading.{Reading}
+use Rattle.td_reading.specs.declared.told.Told.{Told}
+use Rattle.td_source.specs.Kept.{HasOutputs}
+use Rattle.td_source.specs.Reads.{AreOutputsIn}
+use Rattle.td_source.proofs.Naming.{same_kept, same_outputs}
 use Rattle.td_certificate.specs.declared.certificate.Certificate.{Certificate}
 use Rattle.td_domain.specs.declared.cubes.Trit.{Trit}
 use Rattle.td_domain.specs.declared.cubes.Trit.TheVariants.{Zero, One}
@@ -26,8 +31,8 @@ use Rattle.td_certificate.proofs.Texts.{spells_once}
 use Rattle.td_certificate.proofs.VectorCodes.{none_not, some_is}
 use Rattle.td_checker.specs.declared.verdict.Verdict.{Verdict}
 use Rattle.td_checker.specs.declared.verdict.Verdict.TheVariants as verdict
-use Rattle.td_checker.specs.Verdicts.{Flaw, Misplaced, NotEmpty, NotOnePair, WrongNumber, AboveTime, BadStep, LeaveOpen, IsNotEmpty, AreAbove, IsWrong, HasBadStep, HasFlaw, line_total, reported_at, IsGoodIn, HasAdmittedPair, IsFirstBad, AreTold, AreOther, IsVerdictOn, IsVerdict, OneVerdict}
-use Rattle.td_checker.specs.Checks.{TextsHaveOneVerdict, told_by}
+use Rattle.td_checker.specs.Verdicts.{Flaw, Misplaced, NotEmpty, NotOnePair, WrongNumber, AboveTime, BadStep, LeaveOpen, IsNotEmpty, AreAbove, IsWrong, HasBadStep, HasFlaw, line_total, reported_at, IsGoodIn, HasAdmittedPair, IsFirstBad, Said, AreTold, AreOther, IsVerdictOn, IsVerdict, IsVerdictFor, IsVerdictOfWhole, outputs_for, OneVerdict}
+use Rattle.td_checker.specs.Checks.{TextsHaveOneVerdict, HasVerdict, default_for, said_by}
 
 -- the cube has two positions for each input
 abbrev IsOfInputs : Setting → List Trit → Type 0
@@ -333,56 +338,83 @@ one_reported netlist c this that (all_good e accepts) (all_good f also) = e ∙ 
 
 -- ---- the question
 
-not_both : {X : Type 0} (told : Terms) (terms : Option Terms) (line : ℕ) → AreTold told terms → AreOther told terms line → X
-not_both told None line are other = absurd other
-not_both told (Some terms) line are (inl other) = absurd (other.1 are.0)
-not_both told (Some terms) line are (inr other) = absurd (other.2 are.1)
+not_both : {X : Type 0} (said : Said) (terms : Option Terms) (line : ℕ) → AreTold said terms → AreOther said terms line → X
+not_both said None line are other = absurd other
+not_both said (Some terms) line are (inl other) = absurd (other.1 are.0)
+not_both said (Some terms) line are (inr other) = absurd (other.2 are.1)
 
-one_line : (told : Terms) (terms : Option Terms) (this that : ℕ) → AreOther told terms this → AreOther told terms that → this ≡ that
-one_line told None this that h k = absurd h
-one_line told (Some terms) this that (inl h) (inl k) = h.0 ∙ sym k.0
-one_line told (Some terms) this that (inl h) (inr k) = absurd (h.1 k.1)
-one_line told (Some terms) this that (inr h) (inl k) = absurd (k.1 h.1)
-one_line told (Some terms) this that (inr h) (inr k) = h.0 ∙ sym k.0
+one_line : (said : Said) (terms : Option Terms) (this that : ℕ) → AreOther said terms this → AreOther said terms that → this ≡ that
+one_line said None this that h k = absurd h
+one_line said (Some terms) this that (inl h) (inl k) = h.0 ∙ sym k.0
+one_line said (Some terms) this that (inl h) (inr k) = absurd (h.1 k.1)
+one_line said (Some terms) this that (inr h) (inl k) = absurd (k.1 h.1)
+one_line said (Some terms) this that (inr h) (inr k) = h.0 ∙ sym k.0
 
 -- the certificate is of another size, or tells no other terms
-data Judged (told : Terms) (netlist : Netlist) (c : Certificate) (judged : Verdict) : Type 0 where
-  other_terms : (line : ℕ) → judged ≡ verdict.OtherQuestion line → IsOfSize netlist c → AreOther told c.question.terms line → Judged told netlist c judged
-  by_size : (¬ IsOfSize netlist c) → IsVerdictOn netlist c judged → Judged told netlist c judged
-  by_terms : AreTold told c.question.terms → IsVerdictOn netlist c judged → Judged told netlist c judged
+data Judged (said : Said) (netlist : Netlist) (c : Certificate) (judged : Verdict) : Type 0 where
+  other_terms : (line : ℕ) → judged ≡ verdict.OtherQuestion line → IsOfSize netlist c → AreOther said c.question.terms line → Judged said netlist c judged
+  by_size : (¬ IsOfSize netlist c) → IsVerdictOn netlist c judged → Judged said netlist c judged
+  by_terms : AreTold said c.question.terms → IsVerdictOn netlist c judged → Judged said netlist c judged
 
-judged_as : (told : Terms) (netlist : Netlist) (c : Certificate) (judged : Verdict) → IsVerdict told netlist c judged → Judged told netlist c judged
-judged_as told netlist c verdict.Accepted is = by_terms is.0 is.1
-judged_as told netlist c verdict.PairTime is = by_terms is.0 is.1
-judged_as told netlist c (verdict.LeafBound line) is = by_terms is.0 is.1
-judged_as told netlist c (verdict.BadStep line why) is = by_terms is.0 is.1
-judged_as told netlist c (verdict.LeafAboveTime line) is = by_terms is.0 is.1
-judged_as told netlist c (verdict.BadPosition line) is = by_terms is.0 is.1
-judged_as told netlist c (verdict.NotAPoint line) is = by_terms is.0 is.1
-judged_as told netlist c verdict.OtherCircuit is = by_size is is
-judged_as told netlist c verdict.PairNotAdmitted is = by_terms is.0 is.1
-judged_as told netlist c (verdict.LeafNotEmpty line) is = by_terms is.0 is.1
-judged_as told netlist c (verdict.OtherQuestion line) is = other_terms line refl is.0 is.1
+judged_as : (said : Said) (netlist : Netlist) (c : Certificate) (judged : Verdict) → IsVerdict said netlist c judged → Judged said netlist c judged
+judged_as said netlist c verdict.Accepted is = by_terms is.0 is.1
+judged_as said netlist c verdict.PairTime is = by_terms is.0 is.1
+judged_as said netlist c (verdict.LeafBound line) is = by_terms is.0 is.1
+judged_as said netlist c (verdict.BadStep line why) is = by_terms is.0 is.1
+judged_as said netlist c (verdict.LeafAboveTime line) is = by_terms is.0 is.1
+judged_as said netlist c (verdict.BadPosition line) is = by_terms is.0 is.1
+judged_as said netlist c (verdict.NotAPoint line) is = by_terms is.0 is.1
+judged_as said netlist c verdict.OtherCircuit is = by_size is is
+judged_as said netlist c verdict.PairNotAdmitted is = by_terms is.0 is.1
+judged_as said netlist c (verdict.LeafNotEmpty line) is = by_terms is.0 is.1
+judged_as said netlist c (verdict.OtherQuestion line) is = other_terms line refl is.0 is.1
 
-one_judged : (told : Terms) (netlist : Netlist) (c : Certificate) (this that : Verdict) → Judged told netlist c this → Judged told netlist c that → this ≡ that
-one_judged told netlist c this that (other_terms line e size other) (other_terms place f _ also) =
-    e ∙ ap (λ (l : ℕ). verdict.OtherQuestion l) (one_line told c.question.terms line place other also) ∙ sym f
-one_judged told netlist c this that (other_terms line e size other) (by_size no_size is) = absurd (no_size size)
-one_judged told netlist c this that (other_terms line e size other) (by_terms are is) = not_both told c.question.terms line are other
-one_judged told netlist c this that (by_size no_size is) (other_terms line e size other) = absurd (no_size size)
-one_judged told netlist c this that (by_terms are is) (other_terms line e size other) = not_both told c.question.terms line are other
-one_judged told netlist c this that (by_size no_size is) (by_size _ also) = one_reported netlist c this that (reported_as netlist c this is) (reported_as netlist c that also)
-one_judged told netlist c this that (by_size no_size is) (by_terms _ also) = one_reported netlist c this that (reported_as netlist c this is) (reported_as netlist c that also)
-one_judged told netlist c this that (by_terms are is) (by_size _ also) = one_reported netlist c this that (reported_as netlist c this is) (reported_as netlist c that also)
-one_judged told netlist c this that (by_terms are is) (by_terms _ also) = one_reported netlist c this that (reported_as netlist c this is) (reported_as netlist c that also)
+one_judged : (said : Said) (netlist : Netlist) (c : Certificate) (this that : Verdict) → Judged said netlist c this → Judged said netlist c that → this ≡ that
+one_judged said netlist c this that (other_terms line e size other) (other_terms place f _ also) =
+    e ∙ ap (λ (l : ℕ). verdict.OtherQuestion l) (one_line said c.question.terms line place other also) ∙ sym f
+one_judged said netlist c this that (other_terms line e size other) (by_size no_size is) = absurd (no_size size)
+one_judged said netlist c this that (other_terms line e size other) (by_terms are is) = not_both said c.question.terms line are other
+one_judged said netlist c this that (by_size no_size is) (other_terms line e size other) = absurd (no_size size)
+one_judged said netlist c this that (by_terms are is) (other_terms line e size other) = not_both said c.question.terms line are other
+one_judged said netlist c this that (by_size no_size is) (by_size _ also) = one_reported netlist c this that (reported_as netlist c this is) (reported_as netlist c that also)
+one_judged said netlist c this that (by_size no_size is) (by_terms _ also) = one_reported netlist c this that (reported_as netlist c this is) (reported_as netlist c that also)
+one_judged said netlist c this that (by_terms are is) (by_size _ also) = one_reported netlist c this that (reported_as netlist c this is) (reported_as netlist c that also)
+one_judged said netlist c this that (by_terms are is) (by_terms _ also) = one_reported netlist c this that (reported_as netlist c this is) (reported_as netlist c that also)
+
+one_asked : (said : Said) (netlist : Netlist) (c : Certificate) (this that : Verdict) → IsVerdict said netlist c this → IsVerdict said netlist c that → this ≡ that
+one_asked said netlist c this that h k = one_judged said netlist c this that (judged_as said netlist c this h) (judged_as said netlist c that k)
+
+-- a netlist has outputs of these numbers in one way
+pub one_with : (whole : Netlist) (numbers : Option (List ℕ)) (one other : Netlist) → HasOutputs whole numbers one → HasOutputs whole numbers other → one ≡ other
+one_with whole None one other p q = p ∙ sym q
+one_with whole (Some numbers) one other p q = same_kept whole numbers one other p q
+
+one_for : (said : Said) (whole : Netlist) (c : Certificate) (numbers : Option (List ℕ)) (this that : Verdict) → IsVerdictFor said whole c numbers this
+    → IsVerdictFor said whole c numbers that → this ≡ that
+one_for said whole c numbers this that (inl p) (inl q) =
+    one_asked said q.1.0 c this that
+    (subst (λ (n : Netlist). IsVerdict said n c this) (one_with whole numbers p.1.0 q.1.0 p.1.1 q.1.1) p.1.2) q.1.2
+one_for said whole c numbers this that (inl p) (inr q) = absurd (q.0 p.0)
+one_for said whole c numbers this that (inr p) (inl q) = absurd (p.0 q.0)
+one_for said whole c numbers this that (inr p) (inr q) = p.1 ∙ sym q.1
 
 pub one_verdict : OneVerdict
-one_verdict told netlist c this that h k = one_judged told netlist c this that (judged_as told netlist c this h) (judged_as told netlist c that k)
+one_verdict said whole c this that h k = one_for said whole c (outputs_for said.outputs c.question.terms) this that h k
+
+-- a certificate has one verdict of a text
+pub one_of_text : (netlist_text : List ℕ) (reading : Reading) (told : Told) (c : Certificate) (this that : Verdict) → HasVerdict netlist_text reading told c this
+    → HasVerdict netlist_text reading told c that → this ≡ that
+one_of_text netlist_text reading told c this that h k =
+    let whole : h.whole ≡ k.whole = one_netlist netlist_text (default_for reading.default c.question.terms) h.whole k.whole h.means k.means in
+    let outputs : h.outputs ≡ k.outputs =
+    same_outputs k.whole reading.outputs h.outputs k.outputs (subst (λ (n : Netlist). AreOutputsIn n reading.outputs h.outputs) whole h.asked) k.asked in
+    one_verdict (said_by told reading.default k.outputs) k.whole c this that
+    (subst (λ (o : Option (List ℕ)). IsVerdictOfWhole (said_by told reading.default o) k.whole c this) outputs
+    (subst (λ (n : Netlist). IsVerdictOfWhole (said_by told reading.default h.outputs) n c this) whole h.is)) k.is
 
 pub texts_have_one_verdict : TextsHaveOneVerdict
-texts_have_one_verdict netlist_text reading text this that h k =
-    let netlist : h.netlist ≡ k.netlist = reads_one netlist_text reading h.netlist k.netlist h.circuit.reads k.circuit.reads in
+texts_have_one_verdict netlist_text reading told text this that h k =
     let certificate : h.certificate ≡ k.certificate =
     (spells_once h.certificate k.certificate text text [] h.spells k.spells (sym (append-nil text))).0 in
-    let output : h.output ≡ k.output = one_output netlist_text reading h.output k.output h.asked k.asked in
-    one_verdict (told_by reading k.output) k.netlist k.certificate this that (rw (netlist, certificate, output) at h.is) k.is
+    one_of_text netlist_text reading told k.certificate this that
+    (subst (λ (c : Certificate). HasVerdict netlist_text reading told c this) certificate h.has) k.has

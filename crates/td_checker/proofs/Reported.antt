@@ -6,7 +6,7 @@ use Rattle.td_certificate.specs.declared.certificate.Certificate.{Certificate}
 use Rattle.td_certificate.specs.declared.certificate.Claim.{Claim}
 use Rattle.td_certificate.specs.declared.question.Version.{Version}
 use Rattle.td_certificate.specs.declared.question.Version.TheVariants.{First, Second, Third, Fourth}
-use Rattle.td_certificate.specs.Questions.{Terms, Question, inputs_of, asking_of}
+use Rattle.td_certificate.specs.Questions.{Question, inputs_of, asking_of}
 use Rattle.td_certificate.specs.Trees.{IsTree}
 use Rattle.td_certificate.specs.Spelling.{version_in, version_line, circuit_line, question_lines, time_line, from_line, to_line, claim_lines, head_lines, high_lines, fields_of, field_line, MayClaim, HasSpelling}
 use Rattle.td_certificate.specs.Accepts.{lines_in, IsGood, IsOfSize, setting_of, high_of, ClaimsDelay, HasItsTime, Accepts}
@@ -16,7 +16,7 @@ use Rattle.td_checker.specs.declared.judging.Flaw.TheVariants as code
 use Rattle.td_checker.specs.declared.checking.BadLine.{BadLine}
 use Rattle.td_checker.specs.declared.verdict.Verdict.{Verdict}
 use Rattle.td_checker.specs.declared.verdict.Verdict.TheVariants as verdict
-use Rattle.td_checker.specs.Verdicts.{Flaw, Misplaced, NotEmpty, NotOnePair, WrongNumber, AboveTime, BadStep, HasAdmittedPair, IsFirstBad, AreTold, IsVerdictOn, IsVerdict}
+use Rattle.td_checker.specs.Verdicts.{Flaw, Misplaced, NotEmpty, NotOnePair, WrongNumber, AboveTime, BadStep, HasAdmittedPair, IsFirstBad, Said, AreTold, IsVerdictOn, IsVerdict}
 use Rattle.td_checker.specs.Claims.{HaveVectors, lines_before}
 use Rattle.td_checker.specs.Judging.{flaw_of, IsBadAt, IsFoundBad, reported_as}
 
@@ -108,16 +108,16 @@ behind_none c has is =
     ∙ ap (λ (v : Version). 1 + length (version_line v ∷ circuit_line c ∷ (question_lines v c.question ++ claim_lines v None))) fourth)
 
 -- a verdict where the text tells no other terms
-pub with_told : (told : Terms) (netlist : Netlist) (c : Certificate) (v : Verdict) → AreTold told c.question.terms → IsVerdictOn netlist c v
-    → IsVerdict told netlist c v
-with_told told netlist c verdict.Accepted are is = (are, is)
-with_told told netlist c verdict.PairTime are is = (are, is)
-with_told told netlist c (verdict.LeafBound line) are is = (are, is)
-with_told told netlist c (verdict.LeafAboveTime line) are is = (are, is)
-with_told told netlist c (verdict.BadPosition line) are is = (are, is)
-with_told told netlist c (verdict.NotAPoint line) are is = (are, is)
-with_told told netlist c verdict.OtherCircuit are is = is
-with_told told netlist c verdict.PairNotAdmitted are is = (are, is)
-with_told told netlist c (verdict.LeafNotEmpty line) are is = (are, is)
-with_told told netlist c (verdict.BadStep line why) are is = (are, is)
-with_told told netlist c (verdict.OtherQuestion line) are is = absurd is
+pub with_told : (said : Said) (netlist : Netlist) (c : Certificate) (v : Verdict) → AreTold said c.question.terms → IsVerdictOn netlist c v
+    → IsVerdict said netlist c v
+with_told said netlist c verdict.Accepted are is = (are, is)
+with_told said netlist c verdict.PairTime are is = (are, is)
+with_told said netlist c (verdict.LeafBound line) are is = (are, is)
+with_told said netlist c (verdict.LeafAboveTime line) are is = (are, is)
+with_told said netlist c (verdict.BadPosition line) are is = (are, is)
+with_told said netlist c (verdict.NotAPoint line) are is = (are, is)
+with_told said netlist c verdict.OtherCircuit are is = is
+with_told said netlist c verdict.PairNotAdmitted are is = (are, is)
+with_told said netlist c (verdict.LeafNotEmpty line) are is = (are, is)
+with_told said netlist c (verdict.BadStep line why) are is = (are, is)
+with_told said netlist c (verdict.OtherQuestion line) are is = absurd is

@@ -1,5 +1,5 @@
 -- A certificate that is accepted has a text within the limit.
-use Rattle.std.proofs.Common.{◌≡◌, ◌≢◌, ◌*◌, ◌<◌, ◌≤◌, ◌^◌, ℕ, Bool, true, false, List, [], ◌∷◌, length, map, Option, Some, refl, sym, ap, subst, ◌∙◌, arith}
+use Rattle.std.proofs.Common.{◌≡◌, ◌≢◌, ◌*◌, ◌<◌, ◌≤◌, ◌^◌, ℕ, Bool, true, false, List, [], ◌∷◌, length, map, Option, Some, None, inl, refl, sym, ap, subst, ◌∙◌, arith}
 use Rattle.std.specs.Prelude.{unwrap_or}
 use Rattle.std.specs.List.{All, AllByRecursion}
 use Rattle.std.proofs.lemmas.List.{length-map, length-set}
@@ -39,7 +39,25 @@ use Rattle.td_certificate.specs.declared.question.Version.{Version}
 use Rattle.td_certificate.specs.declared.question.Version.TheVariants.{First, Fourth}
 use Rattle.td_certificate.specs.Questions.{Question, inputs_of, version_of, asking_of}
 use Rattle.td_refutation.specs.Asking.{Asking, IsAskedAbout}
-use Rattle.td_checker.specs.Written.{AcceptedIsWritten}
+use Rattle.td_gates.specs.Delays.{Delays}
+use Rattle.td_reading.specs.declared.reading.Reading.{Reading}
+use Rattle.td_reading.specs.declared.told.Told.{Told}
+use Rattle.td_nets.specs.Netlist.{Netlist}
+use Rattle.td_netlist.specs.Means.{Means}
+use Rattle.td_netlist.proofs.Readings.{one_netlist}
+use Rattle.td_circuit.specs.Loops.{Loop}
+use Rattle.td_source.specs.Kept.{AreNumbers, HasOutputs}
+use Rattle.td_source.specs.Reads.{AreOutputsIn, AreOutputsOf, ReadsNetlist}
+use Rattle.td_source.proofs.Naming.{same_outputs}
+use Rattle.td_source.proofs.Asked.{acyclic_whole}
+use Rattle.td_source.proofs.Reading.{numbers_fit, outputs_asked}
+use Rattle.td_certificate.specs.declared.certificate.Certificate.{Certificate}
+use Rattle.td_certificate.specs.Questions.{Terms}
+use Rattle.td_certificate.specs.Accepts.{Accepts}
+use Rattle.td_checker.specs.declared.verdict.Verdict.TheVariants as verdict
+use Rattle.td_checker.specs.Verdicts.{AreTold, outputs_for}
+use Rattle.td_checker.specs.Checks.{HasVerdict, default_for, said_by, told_by}
+use Rattle.td_checker.specs.Written.{AcceptedIsWritten, AreTerms}
 use Rattle.td_checker.proofs.Lines.{count_behind}
 
 -- ---- no delay passes the limits of a circuit
@@ -144,10 +162,49 @@ are_nodes : (version : Version) (nodes : List Node) → AllByRecursion (IsWritte
 are_nodes version [] all = tt
 are_nodes version (n ∷ nodes) all = (all.0.1, are_nodes version nodes all.1)
 
+-- ---- the verdict on what is written
+
+default_told : (reading : Reading) (outputs : Option (List ℕ)) (terms : Option Terms) → AreTerms (told_by reading outputs) terms
+    → default_for reading.default terms ≡ reading.default
+default_told reading outputs None are = refl
+default_told reading outputs (Some terms) are = are.0
+
+outputs_told : (reading : Reading) (outputs : Option (List ℕ)) (terms : Option Terms) → AreTerms (told_by reading outputs) terms → outputs_for outputs terms ≡ outputs
+outputs_told reading outputs None are = refl
+outputs_told reading outputs (Some terms) are = are.1
+
+terms_told : (reading : Reading) (told : Told) (outputs : Option (List ℕ)) (terms : Option Terms) → AreTerms (told_by reading outputs) terms
+    → AreTold (said_by told reading.default outputs) terms
+terms_told reading told outputs None are = tt
+terms_told reading told outputs (Some terms) are =
+    (((λ is. ap (λ d. d.rise) are.0), (λ is. ap (λ d. d.fall) are.0)), (λ is. are.1))
+
+accepted_has : (netlist_text : List ℕ) (reading : Reading) (told : Told) (netlist : Netlist) (c : Certificate) (outputs : Option (List ℕ))
+    → ReadsNetlist netlist_text reading netlist → (¬ Loop netlist) → AreOutputsOf netlist_text reading outputs
+    → AreTerms (told_by reading outputs) c.question.terms → Accepts netlist c → HasVerdict netlist_text reading told c verdict.Accepted
+accepted_has netlist_text reading told netlist c outputs reads acyclic asked are accepts =
+    let whole : asked.whole ≡ reads.whole = one_netlist netlist_text reading.default asked.whole reads.whole asked.means reads.means in
+    let named : AreOutputsIn reads.whole reading.outputs outputs = subst (λ (n : Netlist). AreOutputsIn n reading.outputs outputs) whole asked.are in
+    let found = outputs_asked reads.whole reading.outputs netlist reads.asked in
+    let same : found.0 ≡ outputs = same_outputs reads.whole reading.outputs found.0 outputs found.1 named in
+    let has : HasOutputs reads.whole outputs netlist = subst (λ (o : Option (List ℕ)). HasOutputs reads.whole o netlist) same found.2 in
+    let numbers = outputs_told reading outputs c.question.terms are in
+    record {
+      whole = reads.whole;
+      means = subst (λ (d : Delays). Means netlist_text d reads.whole) (sym (default_told reading outputs c.question.terms are)) reads.means;
+      acyclic = acyclic_whole reads.whole outputs netlist has acyclic;
+      outputs = outputs;
+      asked = named;
+      is = inl (
+        subst (λ (o : Option (List ℕ)). AreNumbers reads.whole o) (sym numbers) (numbers_fit reads.whole reading.outputs outputs named),
+        (netlist, subst (λ (o : Option (List ℕ)). HasOutputs reads.whole o netlist) (sym numbers) has, (terms_told reading told outputs c.question.terms are, accepts)),
+      );
+    }
+
 -- ---- what is written
 
 pub accepted_is_written : AcceptedIsWritten
-accepted_is_written netlist_text reading netlist c claim reads acyclic fit flips accepts output asked can claimed one few none =
+accepted_is_written netlist_text reading netlist c claim reads acyclic fit flips accepts outputs asked can claimed one few none =
     let given : Setting = setting_of netlist c in
     let admitted : IsAskedAbout netlist (asking_of c.question) claim.pair = subst (ClaimsAdmitted netlist (asking_of c.question)) claimed accepts.admitted in
     let reached : IsDelayOfBits given claim.pair.first claim.pair.second claim.time = subst (ClaimsDelay given) claimed accepts.reached in
@@ -185,14 +242,10 @@ accepted_is_written netlist_text reading netlist c claim reads acyclic fit flips
     record {
       has = has;
       within = within;
-      verdict = record {
-        netlist = netlist;
-        circuit = record { reads = reads; acyclic = acyclic.acyclic };
+      verdict = λ told. record {
         certificate = c;
         spells = record { has = has; parts = refl };
         within = within;
-        output = output;
-        asked = asked;
-        is = (can.0, accepts);
+        has = accepted_has netlist_text reading told netlist c outputs reads acyclic.acyclic asked can.0 accepts;
       };
     }

@@ -1,10 +1,13 @@
 -- Verdicts on certificates.
-use Rattle.std.specs.Prelude.{◌≡◌, ℕ, ◌+◌, List, [], ◌∷◌, codes, length, slice_get, take, Option, Some, None, ◌⊎◌}
+use Rattle.std.specs.Prelude.{◌≡◌, ℕ, ◌+◌, true, List, [], ◌∷◌, codes, length, slice_get, take, Option, Some, None, ◌⊎◌}
 use Rattle.std.specs.List.{AllByRecursion}
+use Rattle.td_gates.specs.Delays.{Delays}
+use Rattle.td_reading.specs.declared.told.Told.{Told}
 use Rattle.td_nets.specs.Netlist.{Netlist}
 use Rattle.td_circuit.specs.Settings.{Setting}
 use Rattle.td_domain.specs.declared.cubes.Trit.{Trit}
-use Rattle.td_refutation.specs.Asking.{Asking, IsAskedAbout}
+use Rattle.td_refutation.specs.Asking.{Asking}
+use Rattle.td_source.specs.Kept.{AreNumbers, HasOutputs}
 use Rattle.td_certificate.specs.declared.tree.Node.{Node}
 use Rattle.td_certificate.specs.declared.tree.Node.TheVariants as node
 use Rattle.td_certificate.specs.declared.certificate.Certificate.{Certificate}
@@ -163,21 +166,36 @@ pub record IsFirstBad (netlist : Netlist) (c : Certificate) (flaw : Flaw) (line 
 
 -- ---- the question
 
--- the text tells no terms, or those that the checker was told
-abbrev pub AreTold : Terms → Option Terms → Type 0
-AreTold told None = Unit {0}
-AreTold told (Some terms) = (terms.default ≡ told.default) × (terms.outputs ≡ told.outputs)
+-- What the checker is told of how a netlist is read: the delays of gates that state none, the numbers
+-- of the outputs that are asked about, none where all are, and which of these are compared.
+pub record Said : Type 0 where
+  pub told : Told
+  pub default : Delays
+  pub outputs : Option (List ℕ)
+
+-- the delays are those that the checker is told, where they are compared
+abbrev pub AreSameDelays : Said → Delays → Type 0
+AreSameDelays said delays = (said.told.rise ≡ true → delays.rise ≡ said.default.rise) × (said.told.fall ≡ true → delays.fall ≡ said.default.fall)
+
+-- and so are the outputs
+abbrev pub AreSameOutputs : Said → Option (List ℕ) → Type 0
+AreSameOutputs said outputs = said.told.outputs ≡ true → outputs ≡ said.outputs
+
+-- the text tells no terms, or those that the checker is told
+abbrev pub AreTold : Said → Option Terms → Type 0
+AreTold said None = Unit {0}
+AreTold said (Some terms) = AreSameDelays said terms.default × AreSameOutputs said terms.outputs
 
 -- the line of the text that tells others: first the one of the delays, then the one of the outputs
-abbrev pub AreOther : Terms → Option Terms → ℕ → Type 0
-AreOther told None line = ⊥
-AreOther told (Some terms) line =
-    ((line ≡ 3) × (¬ (terms.default ≡ told.default))) ⊎ ((line ≡ 4) × (terms.default ≡ told.default) × (¬ (terms.outputs ≡ told.outputs)))
+abbrev pub AreOther : Said → Option Terms → ℕ → Type 0
+AreOther said None line = ⊥
+AreOther said (Some terms) line =
+    ((line ≡ 3) × (¬ AreSameDelays said terms.default)) ⊎ ((line ≡ 4) × AreSameDelays said terms.default × (¬ AreSameOutputs said terms.outputs))
 
 -- whether the text tells others, and on which line
-abbrev pub AreCompared : Terms → Option Terms → Option ℕ → Type 0
-AreCompared told terms None = AreTold told terms
-AreCompared told terms (Some line) = AreOther told terms line
+abbrev pub AreCompared : Said → Option Terms → Option ℕ → Type 0
+AreCompared said terms None = AreTold said terms
+AreCompared said terms (Some line) = AreOther said terms line
 
 -- ---- the verdict
 
@@ -195,13 +213,29 @@ IsVerdictOn netlist c (verdict.BadStep line why) = (place : ℕ) × IsFirstBad n
 IsVerdictOn netlist c (verdict.LeafNotEmpty line) = IsFirstBad netlist c NotEmpty line
 IsVerdictOn netlist c (verdict.LeafAboveTime line) = IsFirstBad netlist c AboveTime line
 
--- where the checker was told these terms
-abbrev pub IsVerdict : Terms → Netlist → Certificate → Verdict → Type 0
-IsVerdict told netlist c verdict.OtherCircuit = ¬ IsOfSize netlist c
-IsVerdict told netlist c (verdict.OtherQuestion line) = IsOfSize netlist c × AreOther told c.question.terms line
-IsVerdict told netlist c reported = AreTold told c.question.terms × IsVerdictOn netlist c reported
+-- where the checker was told this, of the netlist that is asked about
+abbrev pub IsVerdict : Said → Netlist → Certificate → Verdict → Type 0
+IsVerdict said netlist c verdict.OtherCircuit = ¬ IsOfSize netlist c
+IsVerdict said netlist c (verdict.OtherQuestion line) = IsOfSize netlist c × AreOther said c.question.terms line
+IsVerdict said netlist c reported = AreTold said c.question.terms × IsVerdictOn netlist c reported
+
+-- the numbers of the outputs that are asked about: those that the text tells, else those that the
+-- checker is told
+abbrev pub outputs_for : Option (List ℕ) → Option Terms → Option (List ℕ)
+outputs_for outputs None = outputs
+outputs_for outputs (Some terms) = terms.outputs
+
+-- These are numbers of the whole netlist's outputs, and the verdict is that on the netlist that has
+-- those alone; or they are not, and the certificate is of another circuit.
+abbrev pub IsVerdictFor : Said → Netlist → Certificate → Option (List ℕ) → Verdict → Type 0
+IsVerdictFor said whole c numbers reported =
+    (AreNumbers whole numbers × ((netlist : Netlist) × HasOutputs whole numbers netlist × IsVerdict said netlist c reported))
+    ⊎ ((¬ AreNumbers whole numbers) × (reported ≡ verdict.OtherCircuit))
+
+abbrev pub IsVerdictOfWhole : Said → Netlist → Certificate → Verdict → Type 0
+IsVerdictOfWhole said whole c reported = IsVerdictFor said whole c (outputs_for said.outputs c.question.terms) reported
 
 -- a certificate has at most one verdict
 abbrev pub OneVerdict : Type 0
-OneVerdict = (told : Terms) (netlist : Netlist) (c : Certificate) (this that : Verdict) → IsVerdict told netlist c this
-    → IsVerdict told netlist c that → this ≡ that
+OneVerdict = (said : Said) (whole : Netlist) (c : Certificate) (this that : Verdict) → IsVerdictOfWhole said whole c this
+    → IsVerdictOfWhole said whole c that → this ≡ that

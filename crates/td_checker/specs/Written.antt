@@ -1,8 +1,9 @@
 -- Certificates that are accepted, and their texts.
-use Rattle.std.specs.Prelude.{◌≡◌, ℕ, ◌≤◌, false, List, length, Option, Some}
+use Rattle.std.specs.Prelude.{◌≡◌, ℕ, ◌≤◌, false, List, length, Option, Some, None}
 use Rattle.td_reading.specs.declared.reading.Reading.{Reading}
+use Rattle.td_reading.specs.declared.told.Told.{Told}
 use Rattle.td_nets.specs.Netlist.{Netlist}
-use Rattle.td_source.specs.Reads.{ReadsNetlist, IsOutputOf}
+use Rattle.td_source.specs.Reads.{ReadsNetlist, AreOutputsOf}
 use Rattle.td_circuit.specs.Settings.{AreMoments}
 use Rattle.td_run.specs.Laws.{IsAcyclic}
 use Rattle.td_certificate.specs.Questions.{Terms, inputs_of}
@@ -14,7 +15,6 @@ use Rattle.td_certificate.specs.Faults.{IsWithinLimit}
 use Rattle.td_certificate.specs.Trees.{has_refuted}
 use Rattle.td_certificate.specs.Accepts.{Accepts}
 use Rattle.td_checker.specs.declared.verdict.Verdict.TheVariants as verdict
-use Rattle.td_checker.specs.Verdicts.{AreTold}
 use Rattle.td_checker.specs.Checks.{HaveVerdict, told_by}
 
 -- the certificate can be written, what is written is within the limit, and the verdict on it is
@@ -22,11 +22,16 @@ use Rattle.td_checker.specs.Checks.{HaveVerdict, told_by}
 pub record IsAcceptedAsWritten (netlist_text : List ℕ) (reading : Reading) (c : Certificate) : Type 0 where
   pub has : HasSpelling c
   pub within : IsWithinLimit (spelling c)
-  pub verdict : HaveVerdict netlist_text reading (spelling c) verdict.Accepted
+  pub verdict : (told : Told) → HaveVerdict netlist_text reading told (spelling c) verdict.Accepted
 
--- the certificate tells the terms that the checker is told, or none where its tree needs none
+-- terms tell these delays and these outputs, or there are none
+abbrev pub AreTerms : Terms → Option Terms → Type 0
+AreTerms told None = Unit {0}
+AreTerms told (Some terms) = (terms.default ≡ told.default) × (terms.outputs ≡ told.outputs)
+
+-- the certificate tells these terms, or none where its tree needs none
 abbrev pub CanBeTold : Terms → Certificate → Type 0
-CanBeTold told c = AreTold told c.question.terms × CanTell c.tree c.question.terms
+CanBeTold told c = AreTerms told c.question.terms × CanTell c.tree c.question.terms
 
 -- A certificate that is accepted of the netlist that is read of a text, with a moment for each
 -- input, no more flips than inputs, and a tree of at most 10,000,000 lines of which none is a
@@ -34,5 +39,5 @@ CanBeTold told c = AreTold told c.question.terms × CanTell c.tree c.question.te
 abbrev pub AcceptedIsWritten : Type 0
 AcceptedIsWritten = (netlist_text : List ℕ) (reading : Reading) (netlist : Netlist) (c : Certificate) (claim : Claim) → ReadsNetlist netlist_text reading netlist
     → IsAcyclic netlist → AreMoments netlist c.question.moments → c.question.admit.flips ≤ inputs_of c.question → Accepts netlist c
-    → (output : Option ℕ) → IsOutputOf netlist_text reading output → CanBeTold (told_by reading output) c → c.claim ≡ Some claim → claim.high ≡ claim.time
+    → (outputs : Option (List ℕ)) → AreOutputsOf netlist_text reading outputs → CanBeTold (told_by reading outputs) c → c.claim ≡ Some claim → claim.high ≡ claim.time
     → length c.tree ≤ 10000000 → has_refuted c.tree ≡ false → IsAcceptedAsWritten netlist_text reading c

@@ -1,32 +1,25 @@
-//! The verdict on a certificate.
+//! The verdict on a certificate of a circuit.
 
-ghost use Rattle.std.specs.Prelude.{◌≡◌, ◌≤◌, ◌<◌, ◌+◌, ◌*◌, ◌↔◌, ◌∷◌, [], ℕ, List, length, option_map, Some, IfOk, IfErr, IfSome, IsTrue};
-ghost use Rattle.td_nets.specs.WellFormed.{IsWellFormed};
+ghost use Rattle.std.specs.Prelude.{◌≡◌, ◌≤◌, ◌<◌, ◌+◌, ◌*◌, ◌↔◌, length, IfOk, IfSome, IsTrue};
 ghost use Rattle.td_circuit.specs.Numbering.{setting};
 ghost use Rattle.td_circuit.specs.Run.{IsDelayOfBits};
 ghost use Rattle.td_certificate.specs.Questions.{asking_of, inputs_of};
 ghost use Rattle.td_certificate.specs.Accepts.{lines_in, IsOfSize, ClaimsAdmitted, ClaimsDelay, high_of};
-ghost use Rattle.td_certificate.specs.Faults.{IsWithinLimit};
-ghost use Rattle.td_certificate.specs.Spelling.{head_lines, HasSpelling, Spells};
+ghost use Rattle.td_certificate.specs.Spelling.{head_lines, HasSpelling};
 ghost use Rattle.td_event_sim.specs.Scratch.{IsFor};
 ghost use Rattle.td_checker.specs.Judging.{AreJudged, reported_as};
 ghost use Rattle.td_checker.specs.Claims.{HaveVectors, lines_before};
-ghost use Rattle.td_checker.specs.Verdicts.{AreCompared, IsVerdictOn, IsVerdict, line_total};
-ghost use Rattle.td_checker.specs.declared.verdict.Verdict.{Verdict as Reported};
-ghost use Rattle.td_checker.specs.Checks.{HaveVerdict, IsCheckFault, IsCertificateFault, IsReportedAs, TellsTruth, told_terms};
+ghost use Rattle.td_checker.specs.Verdicts.{IsVerdictOn, line_total};
 
 use crate::admitting::is_asked_about;
 use crate::judging::{Flaw, Judged, judge};
 use crate::order::are_fit;
-use crate::verdict::{CheckFault, Checked, Verdict};
+use crate::verdict::Verdict;
 use crate::walking::Walk;
 use std::alloc::{AllocError, Global};
-use td_certificate::{CertFaultKind, Certificate, Claim, Question, Terms, Version};
+use td_certificate::{Certificate, Claim, Question, Version};
 use td_circuit::Circuit;
 use td_event_sim::{Scratch, delay_of};
-use td_gates::Delay;
-use td_reading::Reading;
-use td_source::{Source, source_of};
 
 /// The first bad line of a tree: how many of its lines stand before it, and what is wrong with it.
 #[derive(Clone, Copy, Drop)]
@@ -182,7 +175,7 @@ fn is_reached(
 
 /// The verdict on a certificate of the size of a circuit that has the certificate's moments.
 #[tactic(auto, using(crate::proofs::Reported::bad_reported, crate::proofs::Reported::accepted_reported, crate::proofs::Reported::vectors_fit, crate::proofs::Reported::vectors_told, crate::proofs::Reported::pins_fit, crate::proofs::Reported::held_fit, crate::proofs::Reported::is_tree))]
-fn verdict_of_lines(
+pub(crate) fn verdict_of_lines(
     alloc: Global,
     circuit: &Circuit,
     certificate: &Certificate,
@@ -204,154 +197,4 @@ fn verdict_of_lines(
         Some(bad) => Ok(reported_of(bad.flaw, first_line(certificate) + bad.before as u32)),
         None => Ok(Verdict::Accepted),
     }
-}
-
-/// Whether terms name the output with this number alone, or all where none is asked about.
-fn are_asked(terms: &Terms, output: Option<usize>) -> bool
-    ensures { IsTrue result ↔ (terms.now.outputs ≡ option_map (λ number. number ∷ []) output) }
-{
-    match (&terms.outputs, output) {
-        (None, None) => true,
-        (Some(numbers), Some(output)) => numbers.len() == 1 && numbers[0] == output as u64,
-        _ => false,
-    }
-}
-
-/// The line of a text that tells other terms than these delays and this output.
-fn other_line(terms: &Terms, default: Delay, output: Option<usize>) -> Option<u32>
-    ensures { AreCompared (told_terms default output) (Some terms.now) result }
-{
-    if terms.rise != default.rise || terms.fall != default.fall {
-        return Some(3);
-    }
-    if are_asked(terms, output) {
-        None
-    } else {
-        Some(4)
-    }
-}
-
-/// The verdict on a certificate that has a text within the limit, where the checker was told these
-/// delays of gates that state none.
-fn verdict_on(
-    alloc: Global,
-    source: Source,
-    default: Delay,
-    certificate: &Certificate,
-) -> Result<Verdict, AllocError>
-    requires spelled { HasSpelling certificate.now }
-    requires few { line_total (lines_in certificate.now) ≤ 268435456 }
-    ensures { IfOk result (λ verdict. IsVerdict (told_terms default source.output) source.circuit.netlist certificate.now verdict) }
-{
-    let Source { circuit, output } = source;
-    if !is_of_size(&circuit, certificate) {
-        return Ok(Verdict::OtherCircuit);
-    }
-    if let Some(terms) = certificate.question.terms() {
-        if let Some(line) = other_line(terms, default, output) {
-            return Ok(Verdict::OtherQuestion(line));
-        }
-    }
-    let mut circuit = circuit;
-    circuit.set_moments(Vec::from_slice(alloc, certificate.question.moments())?);
-    verdict_of_lines(alloc, &circuit, certificate)
-}
-
-/// The certificate that a text spells.
-fn spelled_by<'a>(alloc: Global, text: &[u8]) -> Result<Certificate, CheckFault<'a>>
-    ensures found { IfOk result (λ certificate. Spells certificate text.now × IsWithinLimit text.now) }
-    ensures fault { IfErr result (λ fault. IsCertificateFault text.now fault) }
-{
-    match td_certificate::read(alloc, text) {
-        Ok(certificate) => Ok(certificate),
-        Err(fault) => match fault.kind {
-            CertFaultKind::OutOfMemory => Err(CheckFault::OutOfMemory),
-            _ => Err(CheckFault::Certificate(fault)),
-        },
-    }
-}
-
-/// The certificate that a text spells, whose memory is given back once it is read.
-fn spelled_by_owned<'a>(alloc: Global, text: Vec<u8>) -> Result<Certificate, CheckFault<'a>>
-    ensures found { IfOk result (λ certificate. Spells certificate text.items × IsWithinLimit text.items) }
-    ensures fault { IfErr result (λ fault. IsCertificateFault text.items fault) }
-{
-    spelled_by(alloc, &text)
-}
-
-/// The verdict on the certificate that a text spells, for the netlist that is read of another.
-#[tactic(auto, using(crate::proofs::Texts::few_lines, crate::proofs::Texts::have_verdict))]
-fn verdict_of_texts<'a>(
-    alloc: Global,
-    netlist: &'a [u8],
-    reading: &Reading<'_>,
-    certificate: &[u8],
-) -> Result<Checked, CheckFault<'a>>
-    ensures reported { IfOk result (λ checked. HaveVerdict netlist.now reading.now certificate.now checked.verdict) }
-    ensures spelled { IfOk result (λ checked. Spells checked.certificate certificate.now) }
-    ensures fault { IfErr result (λ fault. IsCheckFault netlist.now reading.now certificate.now fault) }
-    ensures truth { IfOk result (λ checked. checked.verdict ≡ Verdict.Accepted → TellsTruth netlist.now reading.now certificate.now) }
-{
-    let source = source_of(alloc, netlist, reading)?;
-    let spelled = spelled_by(alloc, certificate)?;
-    let verdict = verdict_on(alloc, source, reading.default, &spelled)?;
-    Ok(Checked {
-        verdict,
-        certificate: spelled,
-    })
-}
-
-/// The verdict on a certificate's text, for the netlist that is read of a netlist's text.
-///
-/// # Errors
-///
-/// The first that is there of a fault of the netlist's text, an output that is not there, a loop of
-/// the netlist that is asked about and a fault of the certificate's text. `OutOfMemory` where a
-/// growth was refused.
-pub fn check<'a>(
-    alloc: Global,
-    netlist: &'a [u8],
-    reading: &Reading<'_>,
-    certificate: &[u8],
-) -> Result<Checked, CheckFault<'a>>
-    // The verdict is the one on the two texts. The certificate is the one that the second text
-    // spells. A fault is one of theirs.
-    ensures reported { IfOk result (λ checked. HaveVerdict netlist.now reading.now certificate.now checked.verdict) }
-    ensures spelled { IfOk result (λ checked. Spells checked.certificate certificate.now) }
-    ensures fault { IfErr result (λ fault. IsCheckFault netlist.now reading.now certificate.now fault) }
-
-    // Unless memory runs out, texts that have a verdict get it.
-    ensures only { (verdict : Reported) → HaveVerdict netlist.now reading.now certificate.now verdict → IsReportedAs verdict result }
-
-    // What an accepted certificate claims is true.
-    ensures truth { IfOk result (λ checked. checked.verdict ≡ Verdict.Accepted → TellsTruth netlist.now reading.now certificate.now) }
-{
-    verdict_of_texts(alloc, netlist, reading, certificate)
-}
-
-/// As `check`, of a certificate's text that is given away: its memory is free again before the
-/// certificate is judged.
-///
-/// # Errors
-///
-/// As `check`.
-#[tactic(auto, using(crate::proofs::Texts::few_lines, crate::proofs::Texts::have_verdict))]
-pub fn check_owned<'a>(
-    alloc: Global,
-    netlist: &'a [u8],
-    reading: &Reading<'_>,
-    certificate: Vec<u8>,
-) -> Result<Checked, CheckFault<'a>>
-    ensures reported { IfOk result (λ checked. HaveVerdict netlist.now reading.now certificate.items checked.verdict) }
-    ensures spelled { IfOk result (λ checked. Spells checked.certificate certificate.items) }
-    ensures fault { IfErr result (λ fault. IsCheckFault netlist.now reading.now certificate.items fault) }
-    ensures truth { IfOk result (λ checked. checked.verdict ≡ Verdict.Accepted → TellsTruth netlist.now reading.now certificate.items) }
-{
-    let asked = source_of(alloc, netlist, reading)?;
-    let spelled = spelled_by_owned(alloc, certificate)?;
-    let verdict = verdict_on(alloc, asked, reading.default, &spelled)?;
-    Ok(Checked {
-        verdict,
-        certificate: spelled,
-    })
 }

@@ -3,6 +3,8 @@
 
 mod admitting;
 mod checking;
+mod checks;
+mod comparing;
 mod judging;
 pub mod laws;
 mod order;
@@ -11,5 +13,6 @@ mod refuting;
 mod verdict;
 mod walking;
 
-pub use checking::{check, check_owned, is_of_size};
+pub use checking::is_of_size;
+pub use checks::{check, check_told};
 pub use verdict::{CheckFault, Checked, Verdict};

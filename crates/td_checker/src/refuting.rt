@@ -69,8 +69,8 @@ fn do_steps(
     Ok(Stepped::Done(place))
 }
 
-/// What is found of a leaf that steps refute, with this cube, where no admitted pair is to change an
-/// output after this moment, or none is to be admitted.
+/// What is found of a leaf that steps refute, with this cube, where no admitted pair is to change
+/// an output after this moment, or none is to be admitted.
 pub fn judge_refuted(
     alloc: Global,
     circuit: &Circuit,

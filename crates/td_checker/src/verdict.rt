@@ -13,11 +13,11 @@ use td_refutation::Flaw as StepFlaw;
 use td_source::SourceFault;
 use thiserror::Error;
 
-/// The verdict on a certificate: the first that applies of another circuit, another question, a pair
-/// that isn't admitted, a pair without the time, and, line by line in the tree, a bad position, a
-/// leaf in whose cube an admitted pair may lie where none is to, a leaf of one pair with something
-/// free, a step that isn't good, a wrong number, and a number that is too high. Lines are those of
-/// the text, from 1.
+/// The verdict on a certificate: the first that applies of another circuit, another question, a
+/// pair that isn't admitted, a pair without the time, and, line by line in the tree, a bad
+/// position, a leaf in whose cube an admitted pair may lie where none is to, a leaf of one pair with
+/// something free, a step that isn't good, a wrong number, and a number that is too high. Lines are
+/// those of the text, from 1.
 #[derive(Clone, Copy, Debug, PartialEq, Eq, Drop)]
 pub enum Verdict {
     /// What the certificate claims is true: the pair has its time, and no admitted pair changes an

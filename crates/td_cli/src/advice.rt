@@ -34,17 +34,17 @@ impl Advice for NoAdvice {
     }
 }
 
-/// The system that a runtime stands for. At a terminal hints are wanted unasked.
+/// The system that a runtime stands for, and whether hints are wanted whatever the words say.
 #[derive(Drop)]
 pub struct System<'r, R> {
     rt: &'r R,
-    terminal: bool,
+    hints: bool,
 }
 
 impl<'r, R: rt::Files> System<'r, R> {
     /// The system of this runtime.
-    pub fn new(rt: &'r R, terminal: bool) -> Self {
-        System { rt, terminal }
+    pub fn new(rt: &'r R, hints: bool) -> Self {
+        System { rt, hints }
     }
 
     /// Why the folder of a name can't hold a file, where that is known.
@@ -70,7 +70,7 @@ fn is_input(name: &str) -> bool {
 
 impl<'r, R: rt::Files> Advice for System<'r, R> {
     fn is_wanted(&self, asked: bool) -> bool {
-        asked || self.terminal
+        asked || self.hints
     }
 
     fn unreadable(&self, name: &str) -> Option<&'static [u8]> {

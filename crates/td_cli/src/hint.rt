@@ -10,7 +10,7 @@ use crate::names::about_word;
 use crate::outputs::read_as;
 use crate::refusals::{
     NetlistText, certificate_fault, memory, netlist_fault, no_pair, no_timer, not_accepted,
-    not_joined, on_loop, one_file, too_long, unreadable, unwritable,
+    not_joined, on_loop, one_file, other_question, too_long, unreadable, unwritable,
 };
 use crate::vectors::{about_vector, no_output};
 use std::alloc::{AllocError, Global};
@@ -147,6 +147,7 @@ impl<'r, 'w, 't> Case<'r, 'w, 't> {
             Refusal::Unaccepted(name, verdict) => not_accepted(text, name, *verdict),
             Refusal::OtherCircuit(name) => not_accepted(text, name, Verdict::OtherCircuit),
             Refusal::NotJoined(fault) => not_joined(text, fault),
+            Refusal::OtherQuestion(difference) => other_question(text, *difference),
             Refusal::TooLong => too_long(text),
         }
     }
@@ -164,7 +165,7 @@ impl<'r, 'w, 't> Case<'r, 'w, 't> {
         match fault {
             SourceFault::OutOfMemory => memory(text),
             SourceFault::Netlist(fault) => netlist_fault(self.alloc, text, self.netlist, *fault),
-            SourceFault::NoOutput => self.output(text, self.request.reading.output.unwrap_or("")),
+            SourceFault::NoOutput => self.unnamed(text),
             SourceFault::Loop(name) => on_loop(text, self.netlist.file, name),
         }
     }
@@ -173,7 +174,7 @@ impl<'r, 'w, 't> Case<'r, 'w, 't> {
         match fault {
             CheckFault::OutOfMemory => memory(text),
             CheckFault::Netlist(fault) => netlist_fault(self.alloc, text, self.netlist, *fault),
-            CheckFault::NoOutput => self.output(text, self.request.reading.output.unwrap_or("")),
+            CheckFault::NoOutput => self.unnamed(text),
             CheckFault::Loop(name) => on_loop(text, self.netlist.file, name),
             CheckFault::Certificate(fault) => {
                 certificate_fault(text, self.certificate(), *fault)
@@ -197,9 +198,20 @@ impl<'r, 'w, 't> Case<'r, 'w, 't> {
         }
     }
 
+    /// Appends which name that is asked about no output has, the first one.
+    fn unnamed(&self, text: &mut Text) -> Result<(), AllocError> {
+        for name in self.request.reading.outputs.names() {
+            let alone = Reading::of_one(self.alloc, self.request.reading.default, name)?;
+            if let Err(SourceFault::NoOutput) = circuit_of(self.alloc, self.netlist.bytes, &alone) {
+                return self.output(text, name);
+            }
+        }
+        Ok(())
+    }
+
     /// Appends that no output has this name, and which outputs there are.
     fn output(&self, text: &mut Text, name: &str) -> Result<(), AllocError> {
-        let whole = Reading::whole(self.request.reading.default);
+        let whole = Reading::whole(self.alloc, self.request.reading.default);
         match circuit_of(self.alloc, self.netlist.bytes, &whole) {
             Ok(circuit) => no_output(text, &circuit, name),
             Err(SourceFault::Loop(net)) => on_loop(text, self.netlist.file, &net),

@@ -23,8 +23,6 @@ mod print;
 mod progress;
 mod refusals;
 mod shell;
-#[cfg(test)]
-mod tests;
 mod usage;
 mod vectors;
 

@@ -2,6 +2,7 @@
 
 use crate::lines::{at_line, help, name_between, of_file, of_two, quote};
 use std::alloc::{AllocError, Global};
+use td_answer::Difference;
 use td_certificate::CertFault;
 use td_checker::Verdict;
 use td_hints::drivers::{Taken, taken_net};
@@ -128,6 +129,20 @@ pub(crate) fn not_joined(text: &mut Text, fault: &JoinFault<&str>) -> Result<(),
         | JoinFault::Crossed(one, other) => of_two(text, one, other, joins::sentence(fault))?,
     }
     help(text, joins::advice(fault))
+}
+
+/// Appends in what the parts are of another question than the one that is asked.
+pub(crate) fn other_question(text: &mut Text, difference: Difference) -> Result<(), AllocError> {
+    text.push(match difference {
+        Difference::Hold =>
+            b"the parts have other inputs held than join is told (--hold)".as_slice(),
+        Difference::Flips => b"the parts have another --flips than join is told".as_slice(),
+        Difference::Moments => b"the parts have another --at than join is told".as_slice(),
+    })?;
+    help(
+        text,
+        b"give join the options about inputs that the parts were searched with",
+    )
 }
 
 /// Appends what to do where a write fails, or where memory runs out after the answer.

@@ -38,7 +38,7 @@ use td_text::Sink;
 /// Each file that the words name is read once, before anything is judged. What is answered goes to
 /// `out` in the form that the words ask for (text, JSON or nothing), and then the certificate and
 /// the waves go to their files. Why it is refused goes to `err`; a hint follows where the words ask
-/// for hints, or `terminal` says that a person reads. Help and the version go to `out`.
+/// or `hints` ask for one. Help and the version go to `out`.
 ///
 /// What goes out is the print of an outcome that is true of what the files hold, or a beginning of
 /// it where a device fails or memory runs out; or nothing, for a reason that holds. `Status::code`
@@ -50,7 +50,7 @@ pub fn program<R: Threads + Wait + Clock + Sync + rt::Files, S: AsStr, F: Files,
     files: &mut F,
     out: &mut O,
     err: &mut E,
-    terminal: bool,
+    hints: bool,
 ) -> Status
     ensures { Ends (F.disk files.old) (map S.text words.now) result (O.output out.old) (O.output out.new) }
 {
@@ -60,7 +60,7 @@ pub fn program<R: Threads + Wait + Clock + Sync + rt::Files, S: AsStr, F: Files,
     };
     match request_of(alloc, &words, out, err) {
         Ok(request) => {
-            let system = System::new(rt, terminal);
+            let system = System::new(rt, hints);
             carry_out(rt, alloc, &request, files, out, err, &system)
         }
         Err(status) => status,

@@ -45,7 +45,7 @@ fn given_in<'w>(command: &Command<'w>) -> Given<'w> {
         Command::Bound(bound) => bound.inputs.given,
         Command::Worst(search) => search.question.inputs.given,
         Command::Parts(parts) => parts.question.inputs.given,
-        Command::Join(join) => join.inputs.given,
+        Command::Join(join) => join.question.inputs.given,
         Command::Check(_) | Command::Info => Given {
             first: None,
             second: None,

@@ -2,7 +2,7 @@
 use Rattle.std.proofs.Common.{◌≡◌, ◌∙◌, ap, refl, subst, sym, true, List, [], Option}
 use Rattle.clap.specs.Words.{App, HasKind, Kinds, Row, Text, fault_of, is_simple, is_simple_and_free, subcommand_of}
 use Rattle.clap.specs.declared.error.Error.{Error}
-use Rattle.td_command.specs.CommandLine.{IsOfStrategies, Listed, kinds_of, program, program_of}
+use Rattle.td_command.specs.CommandLine.{IsOfStrategies, kinds_of, program, program_of}
 use Rattle.td_command.proofs.Whereabouts.{commands_same, faults_same}
 
 module _ (app : App) (is : IsOfStrategies program_of app) where

@@ -1,15 +1,19 @@
 -- The command line in the form that the parser of command lines takes, and what the words ask for.
-use Rattle.std.specs.Prelude.{⊤, ◌≡◌, ℕ, ◌≤◌, ◌<◌, ◌^◌, Bool, List, [], ◌∷◌, ◌++◌, codes, length, map, pos, true, Option, Some, None, option_map}
+use Rattle.std.specs.Prelude.{◌≡◌, ℕ, ◌≤◌, ◌<◌, ◌^◌, Bool, List, [], ◌∷◌, ◌++◌, codes, find, length, map, not, pos, true, false, Option, Some, None, option_map, option_and_then}
 use Rattle.std.specs.Borrow.{Bor}
 use Rattle.std.specs.List.{fold}
+use Rattle.std.specs.Option.{option_map_or}
+use Rattle.std.specs.Str.{bytes_eq}
 use Rattle.std.specs.Str.Parse.{IsNumeral, digits_value, without_leading_plus}
-use Rattle.clap.specs.Words.{App, Kinds, Row, Rule, Text, all_of, fault_of, first_of, new_app, new_rule, one_of, subcommand_of, with_rule, with_subcommand}
+use Rattle.clap.specs.Words.{App, Kinds, Row, Rule, Text, all_of, fault_of, first_of, new_app, new_rule, one_of, with_rule, with_subcommand}
 use Rattle.clap.specs.Values.{bool_text}
 use Rattle.clap.specs.declared.builder.action.ArgAction.TheVariants.{Append, SetTrue}
+use Rattle.clap.specs.declared.parser.matches.ValueSource.{ValueSource}
+use Rattle.clap.specs.declared.parser.matches.ValueSource.TheVariants.{DefaultValue, CommandLine}
 use Rattle.clap.specs.declared.builder.value_parser.ValueParser.TheVariants.{Names, Signed, Unsigned}
 use Rattle.td_gates.specs.Delays.{Delays, IsInRange}
 use Rattle.td_reading.specs.declared.reading.Reading.{Reading}
-use Rattle.td_reading.specs.Outputs.{output_asked}
+use Rattle.td_reading.specs.declared.told.Told.{Told}
 
 -- ---- what the parser is given
 
@@ -101,6 +105,10 @@ strategy_rule strategies = name_option (codes "strategy") strategies (codes "aut
 abbrev pub certificate_rule : Rule
 certificate_rule = with_letter out_letter (option (codes "cert"))
 
+-- which outputs are asked about, of which any number may be named
+abbrev pub outputs_rule : Rule
+outputs_rule = record (option (codes "output")) { action = Some Append }
+
 -- how a search goes, and where its certificate goes
 abbrev pub search_rules : Listed → List Rule
 search_rules strategies =
@@ -119,25 +127,25 @@ path_command = command_of (codes "path") (pair_rules ++ option (codes "at") ∷ 
 
 abbrev pub bound_command : App
 bound_command =
-    command_of (codes "bound") (needed (codes "FILE") ∷ cube_rules ++ option (codes "at") ∷ flag (codes "edges") ∷ flag (codes "outputs") ∷ option (codes "output") ∷ [])
+    command_of (codes "bound") (needed (codes "FILE") ∷ cube_rules ++ option (codes "at") ∷ flag (codes "edges") ∷ flag (codes "outputs") ∷ outputs_rule ∷ [])
 
 abbrev pub worst_command : Listed → App
 worst_command strategies =
     command_of (codes "worst") (needed (codes "FILE") ∷ admitted_rules ++ option (codes "at") ∷ search_rules strategies
-    ++ option (codes "vcd") ∷ flag (codes "path") ∷ flag (codes "progress") ∷ flag (codes "outputs") ∷ option (codes "output") ∷ flag (codes "each") ∷ [])
+    ++ option (codes "vcd") ∷ flag (codes "path") ∷ flag (codes "progress") ∷ flag (codes "outputs") ∷ outputs_rule ∷ flag (codes "each") ∷ [])
 
 abbrev pub parts_command : Listed → App
 parts_command strategies =
     command_of (codes "parts") (needed (codes "FILE") ∷ needed_number (codes "parts") 1 65536 ∷ admitted_rules
-    ++ option (codes "at") ∷ strategy_rule strategies ∷ option (codes "output") ∷ [])
+    ++ option (codes "at") ∷ strategy_rule strategies ∷ outputs_rule ∷ [])
 
 abbrev pub join_command : App
 join_command =
-    command_of (codes "join") (needed (codes "FILE") ∷ needed_words (codes "CERT") ∷ certificate_rule ∷ flag (codes "check") ∷ cube_rules
-    ++ option (codes "output") ∷ [])
+    command_of (codes "join") (needed (codes "FILE") ∷ needed_words (codes "CERT") ∷ certificate_rule ∷ flag (codes "check") ∷ flag (codes "no-check") ∷
+    admitted_rules ++ option (codes "at") ∷ outputs_rule ∷ [])
 
 abbrev pub check_command : App
-check_command = command_of (codes "check") (needed (codes "FILE") ∷ needed (codes "CERT") ∷ option (codes "output") ∷ [])
+check_command = command_of (codes "check") (needed (codes "FILE") ∷ needed (codes "CERT") ∷ outputs_rule ∷ [])
 
 abbrev pub info_command : App
 info_command = command_of (codes "info") (needed (codes "FILE") ∷ [])
@@ -208,6 +216,10 @@ HasWords id rows words = (all_of id rows ≡ Some words) × (0 < length words)
 abbrev pub HasFlag : Text → List Row → Bool → Type 0
 HasFlag id rows given = one_of id rows ≡ Some (bool_text given)
 
+-- the flag is left out, or given
+abbrev pub LacksFlag : Text → List Row → Bool → Type 0
+LacksFlag id rows left_out = HasFlag id rows (not left_out)
+
 abbrev pub delays : ℕ → ℕ → Delays
 delays rise fall = record { rise = rise; fall = fall }
 
@@ -217,15 +229,38 @@ pub record HasDefault (rows : List Row) (default : Delays) : Type 0 where
   pub fall : HasNumber (codes "default-fall") rows default.fall
   pub in_range : IsInRange default
 
--- the netlist's text is read so, of the output that the option names, where it is given
+-- the words of an option, in order; none where it is left out
+abbrev pub words_of : Text → List Row → List Text
+words_of id rows = option_map_or (λ words. words) (all_of id rows) []
+
+-- the netlist's text is read so, of the outputs that the option names
 pub record HasReading (rows : List Row) (reading : Reading) : Type 0 where
   pub default : HasDefault rows reading.default
-  pub output : first_of (codes "output") rows ≡ output_asked reading
+  pub outputs : reading.outputs ≡ words_of (codes "output") rows
 
 -- the netlist's text is read so, of all outputs
 pub record HasWholeReading (rows : List Row) (reading : Reading) : Type 0 where
   pub default : HasDefault rows reading.default
-  pub output : reading.output ≡ None
+  pub outputs : reading.outputs ≡ []
+
+-- where the value of an option comes from
+abbrev pub source_in : Text → List Row → Option ValueSource
+source_in id rows = option_and_then (λ row. row.source) (find (λ row. bytes_eq row.id id) rows)
+
+abbrev pub is_of_words : Option ValueSource → Bool
+is_of_words None = false
+is_of_words (Some DefaultValue) = false
+is_of_words (Some CommandLine) = true
+
+-- the words give this option a value
+abbrev pub is_told : Text → List Row → Bool
+is_told id rows = is_of_words (source_in id rows)
+
+-- this is what the words tell of how the netlist's text is read
+pub record IsTold (rows : List Row) (told : Told) : Type 0 where
+  pub rise : told.rise ≡ is_told (codes "default-rise") rows
+  pub fall : told.fall ≡ is_told (codes "default-fall") rows
+  pub outputs : told.outputs ≡ is_told (codes "output") rows
 
 -- the most nodes of a search
 abbrev pub HasBudget : List Row → ℕ → Type 0

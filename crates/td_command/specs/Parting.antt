@@ -1,5 +1,5 @@
 -- The words of a command line, with those about inputs by name set apart.
-use Rattle.std.specs.Prelude.{◌≡◌, ℕ, List, [], ◌∷◌, Bool, true, false, not, ◌==◌, ◌&&◌, ◌||◌, map}
+use Rattle.std.specs.Prelude.{◌≡◌, List, [], ◌∷◌, Bool, true, false, not, ◌==◌, ◌&&◌, ◌||◌, map}
 use Rattle.td_inputs.specs.declared.topic.Topic.TheVariants.{At, Pin, HoldInput}
 use Rattle.td_inputs.specs.Readings.{has}
 use Rattle.td_inputs.specs.Scans.{Text, Taken, Scan, taken_in, scan_of, with_words}

@@ -25,7 +25,7 @@ use Rattle.td_request.specs.declared.request.Parts.{Parts}
 use Rattle.td_request.specs.declared.request.Join.{Join}
 use Rattle.td_request.specs.declared.request.Check.{Check}
 use Rattle.td_request.specs.declared.request.Request.{Request}
-use Rattle.td_command.specs.CommandLine.{HasCount, HasWord, HasWords, HasFlag, HasNumber, HasReading, HasWholeReading, IsGiven, kinds_of, program}
+use Rattle.td_command.specs.CommandLine.{HasCount, HasWord, HasWords, HasFlag, LacksFlag, HasNumber, HasReading, HasWholeReading, IsGiven, IsTold, kinds_of, program}
 use Rattle.td_command.specs.declared.words.Words.{Words}
 use Rattle.td_command.specs.declared.requests.Common.{Common}
 
@@ -95,9 +95,13 @@ pub record SaysParts (rows : List Row) (named : List Taken) (said : Parts) : Typ
 
 pub record SaysJoin (rows : List Row) (named : List Taken) (said : Join) : Type 0 where
   pub parts : HasWords (codes "CERT") rows said.parts
+  pub question : SaysQuestion rows named said.question
   pub certificate : HasWord (codes "cert") rows said.certificate
-  pub check : HasFlag (codes "check") rows said.check
-  pub inputs : SaysInputs rows named said.inputs
+  pub check : LacksFlag (codes "no-check") rows said.check
+
+pub record SaysCheck (rows : List Row) (said : Check) : Type 0 where
+  pub certificate : IsGiven (codes "CERT") rows said.certificate
+  pub told : IsTold rows said.told
 
 -- the command of this name says this
 abbrev pub SaysCommand : Text → List Row → List Taken → Command → Type 0
@@ -107,7 +111,7 @@ SaysCommand name rows named (command.Bound said) = (name ≡ codes "bound") × S
 SaysCommand name rows named (command.Worst said) = (name ≡ codes "worst") × SaysWorst rows named said
 SaysCommand name rows named (command.Parts said) = (name ≡ codes "parts") × SaysParts rows named said
 SaysCommand name rows named (command.Join said) = (name ≡ codes "join") × SaysJoin rows named said
-SaysCommand name rows named (command.Check said) = (name ≡ codes "check") × IsGiven (codes "CERT") rows said.certificate
+SaysCommand name rows named (command.Check said) = (name ≡ codes "check") × SaysCheck rows said
 SaysCommand name rows named command.Info = name ≡ codes "info"
 
 -- no report where that is asked for, else JSON where that is
@@ -124,7 +128,7 @@ SaysForm rows said =
 abbrev pub is_about_all : Text → Bool
 is_about_all name = bytes_eq name (codes "sim") || (bytes_eq name (codes "path") || bytes_eq name (codes "info"))
 
--- the netlist's text is read so: of one output only where the command asks about one
+-- the netlist's text is read so: of some outputs only where the command asks about those
 abbrev pub SaysReading : Text → List Row → Reading → Type 0
 SaysReading name rows reading = (is_about_all name ≡ true → HasWholeReading rows reading) × (is_about_all name ≡ false → HasReading rows reading)
 
@@ -157,8 +161,8 @@ pub record AskFor (words : Words) (said : Request) : Type 0 where
 -- the command of this name takes what is said of inputs by name
 abbrev pub takes : Text → List Said → Bool
 takes name named =
-    let searches = bytes_eq name (codes "worst") || bytes_eq name (codes "parts") in
-    let pins = searches || (bytes_eq name (codes "bound") || bytes_eq name (codes "join")) in
+    let searches = bytes_eq name (codes "worst") || (bytes_eq name (codes "parts") || bytes_eq name (codes "join")) in
+    let pins = searches || bytes_eq name (codes "bound") in
     let moments = searches || (bytes_eq name (codes "bound") || (bytes_eq name (codes "sim") || bytes_eq name (codes "path"))) in
     (pins || not (has Pin named)) && ((searches || not (has HoldInput named)) && (moments || not (has At named)))
 

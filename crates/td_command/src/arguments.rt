@@ -3,10 +3,10 @@
 ghost use Rattle.std.specs.Prelude.{◌≡◌, ◌++◌, [], ◌∷◌, codes, false, IfOk, OnOk};
 ghost use Rattle.clap.specs.Words.{app_of, new_app, rule_of};
 ghost use Rattle.td_command.specs.CommandLine.{needed, needed_words, needed_number, option, named_option, number_option, count_option, name_option, flag};
-ghost use Rattle.td_command.specs.CommandLine.{with_letter, workers_letter, quiet_letter, common_rules, pair_rules, cube_rules, admitted_rules, strategy_rule, certificate_rule, search_rules};
+ghost use Rattle.td_command.specs.CommandLine.{with_letter, workers_letter, quiet_letter, common_rules, pair_rules, cube_rules, admitted_rules, strategy_rule, certificate_rule, outputs_rule, search_rules};
 ghost use Rattle.td_command.specs.Telling.{reported, TellsRule, TellsRules};
 
-use crate::help::{FREE_HELP, LATEST_HELP, WHOLE_HELP};
+use crate::help::{LATEST_HELP, OUTPUT_HELP};
 use clap::builder::ValueParser;
 use clap::{Arg, ArgAction, Command};
 use std::alloc::{AllocError, Global};
@@ -280,11 +280,19 @@ time of the input of this name, as often as needed",
         )
     }
 
-    /// Which output is asked about, as an option.
+    /// Which output's path is asked for, as an option.
     pub(crate) fn output(&mut self, help: &'a str) -> Result<(), AllocError>
         ensures { OnOk result (TellsRule (option (codes "output")) self.old self.new) }
     {
         self.option("output", "NAME", help)
+    }
+
+    /// Which outputs are asked about, as an option that may be given any number of times.
+    pub(crate) fn asked_outputs(&mut self) -> Result<(), AllocError>
+        ensures { OnOk result (TellsRule outputs_rule self.old self.new) }
+    {
+        let output = option(self.alloc, "output", "NAME", OUTPUT_HELP);
+        self.add(output.action(ArgAction::Append))
     }
 
     /// Whether it is asked which output changes last, or has the bound, as a flag.
@@ -323,10 +331,15 @@ shows, or `none` if there are no inputs",
     }
 
     /// The pairs of a cube, as two options, and an option that pins inputs by their names.
-    pub(crate) fn cube(&mut self, first_help: &'a str) -> Result<(), AllocError>
+    pub(crate) fn cube(&mut self) -> Result<(), AllocError>
         ensures { OnOk result (TellsRules cube_rules self.old self.new) }
     {
-        self.option("first", "TRITS", first_help)?;
+        self.option(
+            "first",
+            "TRITS",
+            "The first vector: 0, 1 or . (free) for each input in the order that\n\
+`info` shows; all free if left out",
+        )?;
         self.option(
             "second",
             "TRITS",
@@ -375,7 +388,7 @@ nodes handled pass 1, 2, 5, 10, 20, .. thousand, and every ten seconds",
     pub(crate) fn admitted(&mut self) -> Result<(), AllocError>
         ensures { OnOk result (TellsRules admitted_rules self.old self.new) }
     {
-        self.cube(FREE_HELP)?;
+        self.cube()?;
         self.option(
             "hold",
             "MASK",
@@ -479,9 +492,10 @@ lies between two figures",
         )
     }
 
-    /// The certificates that are joined, where theirs goes, and whether each is checked.
+    /// The certificates that are joined, where theirs goes, and whether each is checked, which is
+    /// said or left out.
     pub(crate) fn joined(&mut self) -> Result<(), AllocError>
-        ensures { OnOk result (TellsRules (needed_words (codes "CERT") ∷ certificate_rule ∷ flag (codes "check") ∷ []) self.old self.new) }
+        ensures { OnOk result (TellsRules (needed_words (codes "CERT") ∷ certificate_rule ∷ flag (codes "check") ∷ flag (codes "no-check") ∷ []) self.old self.new) }
     {
         self.needed_words(
             "CERT",
@@ -492,7 +506,12 @@ standard input",
         self.flag(
             "check",
             "Checks the certificate of each part before it is joined, as `check`\n\
-does",
+does; so it is without this too",
+        )?;
+        self.flag(
+            "no-check",
+            "Joins certificates that aren't checked, which is quicker: the report\n\
+says `unchecked T` in place of `exact T`",
         )
     }
 

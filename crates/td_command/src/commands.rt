@@ -7,8 +7,8 @@ ghost use Rattle.td_command.specs.Telling.{reported, offering, OffersCommand, Of
 
 use crate::arguments::Arguments;
 use crate::help::{
-    BOUND_HELP, BOUND_OUTPUT_HELP, CHAIN_HELP, CHECK_HELP, FREE_HELP, HELP, INFO_HELP, JOIN_HELP,
-    LATEST_HELP, OUTPUT_HELP, PARTS_HELP, PATH_HELP, SIM_HELP, VERSION, WHOLE_HELP, WORST_HELP,
+    BOUND_HELP, BOUND_OUTPUT_HELP, CHAIN_HELP, CHECK_HELP, HELP, INFO_HELP, JOIN_HELP, LATEST_HELP,
+    PARTS_HELP, PATH_HELP, SIM_HELP, VERSION, WORST_HELP,
 };
 use clap::Command;
 use std::alloc::{AllocError, Global};
@@ -97,11 +97,11 @@ impl<'a> Commands<'a> {
     {
         let mut arguments = Arguments::new(self.alloc);
         arguments.file()?;
-        arguments.cube(FREE_HELP)?;
+        arguments.cube()?;
         arguments.moments()?;
         arguments.edges()?;
         arguments.outputs(BOUND_OUTPUT_HELP)?;
-        arguments.output(OUTPUT_HELP)?;
+        arguments.asked_outputs()?;
         arguments.common()?;
         self.add(
             "bound",
@@ -118,7 +118,7 @@ impl<'a> Commands<'a> {
         arguments.searched(strategies)?;
         arguments.vcd()?;
         arguments.reported()?;
-        arguments.output(OUTPUT_HELP)?;
+        arguments.asked_outputs()?;
         arguments.each()?;
         arguments.common()?;
         self.add(
@@ -138,7 +138,7 @@ impl<'a> Commands<'a> {
         arguments.admitted()?;
         arguments.moments()?;
         arguments.strategy(strategies)?;
-        arguments.output(OUTPUT_HELP)?;
+        arguments.asked_outputs()?;
         arguments.common()?;
         self.add(
             "parts",
@@ -155,8 +155,9 @@ answers each",
         let mut arguments = Arguments::new(self.alloc);
         arguments.file()?;
         arguments.joined()?;
-        arguments.cube(WHOLE_HELP)?;
-        arguments.output(OUTPUT_HELP)?;
+        arguments.admitted()?;
+        arguments.moments()?;
+        arguments.asked_outputs()?;
         arguments.common()?;
         self.add(
             "join",
@@ -172,7 +173,7 @@ answers each",
         let mut arguments = Arguments::new(self.alloc);
         arguments.file()?;
         arguments.certificate()?;
-        arguments.output(OUTPUT_HELP)?;
+        arguments.asked_outputs()?;
         arguments.common()?;
         self.add(
             "check",

@@ -19,8 +19,8 @@ use td_request::Request;
 fn takes(name: &str, named: &[Taken<'_>]) -> bool
     ensures { result ≡ takes name.now (map taken_in named.now) }
 {
-    let searches = name == "worst" || name == "parts";
-    let pins = searches || (name == "bound" || name == "join");
+    let searches = name == "worst" || (name == "parts" || name == "join");
+    let pins = searches || name == "bound";
     let moments = searches || (name == "bound" || (name == "sim" || name == "path"));
     (pins || !has(Topic::Pin, named))
         && ((searches || !has(Topic::HoldInput, named)) && (moments || !has(Topic::At, named)))

@@ -1,13 +1,14 @@
 //! What the options of a command say, each by itself.
 
-ghost use Rattle.std.specs.Prelude.{◌<◌, ◌^◌, ℕ, IfSome, IfNone, IfOk};
+ghost use Rattle.std.specs.Prelude.{◌≡◌, ◌<◌, ◌^◌, ℕ, IfSome, IfNone, IfOk};
 ghost use Rattle.clap.specs.Words.{found_of, rows_of};
-ghost use Rattle.td_command.specs.CommandLine.{HasNumber, HasCount, HasFlag, HasWord, HasWords, HasDefault, HasReading, HasWholeReading, HasWorkers, HasBudget, HasParts, IsAnswered, IsGiven};
+ghost use Rattle.td_command.specs.CommandLine.{HasNumber, HasCount, HasFlag, LacksFlag, HasWord, HasWords, HasDefault, HasReading, HasWholeReading, HasWorkers, HasBudget, HasParts, IsAnswered, IsGiven, IsTold, is_told, words_of};
 
 use clap::ArgMatches;
+use clap::parser::ValueSource;
 use std::alloc::{AllocError, Global};
 use td_gates::Delay;
-use td_reading::Reading;
+use td_reading::{Outputs, Reading, Told};
 use td_request::{Files, MOST_NODES, MOST_PARTS, MOST_WORKERS};
 
 /// The word of an option, if it is given.
@@ -79,6 +80,14 @@ pub(crate) fn flag_given(matches: &ArgMatches<'_>, id: &str) -> Option<bool>
     matches.get_one::<bool>(id)
 }
 
+/// Whether a flag is left out.
+pub(crate) fn flag_left_out(matches: &ArgMatches<'_>, id: &str) -> Option<bool>
+    ensures { IsAnswered (LacksFlag id.now (rows_of (found_of matches.now))) result }
+{
+    let given = flag_given(matches, id)?;
+    Some(!given)
+}
+
 /// The delay of gates that state none.
 pub(crate) fn default(matches: &ArgMatches<'_>) -> Option<Delay>
     ensures { IsAnswered (HasDefault (rows_of (found_of matches.now))) result }
@@ -88,26 +97,65 @@ pub(crate) fn default(matches: &ArgMatches<'_>) -> Option<Delay>
     Delay::new(rise, fall)
 }
 
+/// The words of an option that may be given any number of times, in order.
+fn outputs<'a>(alloc: Global, matches: &ArgMatches<'a>, id: &str) -> Result<Outputs<'a>, AllocError>
+    ensures { IfOk result (λ outputs. outputs ≡ words_of id.now (rows_of (found_of matches.now))) }
+{
+    let mut names = Vec::new(alloc);
+    match matches.get_raw(id) {
+        Some(given) => {
+            names.extend_from_slice(given)?;
+            Ok(Outputs::new(names))
+        }
+        None => Ok(Outputs::new(names)),
+    }
+}
+
 /// How the netlist's text is read, of all outputs.
-pub(crate) fn whole_reading<'a>(matches: &ArgMatches<'a>) -> Option<Reading<'a>>
+pub(crate) fn whole_reading<'a>(alloc: Global, matches: &ArgMatches<'a>) -> Option<Reading<'a>>
     ensures { IsAnswered (HasWholeReading (rows_of (found_of matches.now))) result }
 {
     let default = default(matches)?;
-    Some(Reading {
-        default,
-        output: None,
-    })
+    Some(Reading::whole(alloc, default))
 }
 
-/// How the netlist's text is read, of the output that is asked about.
-pub(crate) fn reading<'a>(matches: &ArgMatches<'a>) -> Option<Reading<'a>>
-    ensures { IsAnswered (HasReading (rows_of (found_of matches.now))) result }
+/// How the netlist's text is read, of the outputs that are asked about.
+pub(crate) fn reading<'a>(
+    alloc: Global,
+    matches: &ArgMatches<'a>,
+) -> Result<Option<Reading<'a>>, AllocError>
+    ensures { IfOk result (IsAnswered (HasReading (rows_of (found_of matches.now)))) }
 {
-    let default = default(matches)?;
-    Some(Reading {
-        default,
-        output: matches.get_str("output"),
-    })
+    let Some(default) = default(matches) else {
+        return Ok(None);
+    };
+    let outputs = outputs(alloc, matches, "output")?;
+    Ok(Some(Reading { default, outputs }))
+}
+
+/// Whether the words give this option a value.
+fn is_told(matches: &ArgMatches<'_>, id: &str) -> bool
+    ensures { result ≡ is_told id.now (rows_of (found_of matches.now)) }
+{
+    match matches.value_source(id) {
+        Some(ValueSource::CommandLine) => true,
+        Some(ValueSource::DefaultValue) => false,
+        None => false,
+    }
+}
+
+/// What the words tell of how the netlist's text is read.
+pub(crate) fn told(matches: &ArgMatches<'_>) -> Told
+    ensures { IsTold (rows_of (found_of matches.now)) result }
+{
+    let rise = is_told(matches, "default-rise");
+    let fall = is_told(matches, "default-fall");
+    let outputs = is_told(matches, "output");
+    Told {
+        rise,
+        fall,
+        outputs,
+    }
 }
 
 /// How many threads search.

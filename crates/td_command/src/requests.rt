@@ -7,8 +7,8 @@ ghost use Rattle.td_command.specs.CommandLine.{HasWords, IsAnswered};
 ghost use Rattle.td_command.specs.Saying.{SaysInputs, SaysQuestion, SaysStrategy, SaysEffort, SaysShown, SaysForm, is_about_all, SaysReading, SaysCommon, SaysCommand, SaysRequest, EntersRequest};
 
 use crate::options::{
-    budget, count, files, flag_given, needed, parts as parts_number, reading, whole_reading, word,
-    workers,
+    budget, count, files, flag_given, flag_left_out, needed, parts as parts_number, reading, told,
+    whole_reading, word, workers,
 };
 use clap::ArgMatches;
 use std::alloc::{AllocError, Global};
@@ -173,14 +173,14 @@ fn joined<'a>(
     requires { HasWords (codes "CERT") (rows_of (found_of matches.now)) parts }
     ensures { IsAnswered (SaysCommand (codes "join") (rows_of (found_of matches.now)) named.entry.now) result }
 {
-    let check = flag_given(matches, "check")?;
+    let question = question(matches, named)?;
+    let check = flag_left_out(matches, "no-check")?;
     let certificate = word(matches, "cert");
-    let inputs = inputs(matches, named);
     Some(Command::Join(Join {
         parts,
+        question,
         certificate,
         check,
-        inputs,
     }))
 }
 
@@ -202,7 +202,8 @@ fn check<'a>(matches: &ArgMatches<'a>) -> Option<Command<'a>>
     ensures { (named : List Taken) → IsAnswered (SaysCommand (codes "check") (rows_of (found_of matches.now)) named) result }
 {
     let certificate = needed(matches, "CERT")?;
-    Some(Command::Check(Check { certificate }))
+    let told = told(matches);
+    Some(Command::Check(Check { certificate, told }))
 }
 
 /// In which form the report goes out.
@@ -250,18 +251,22 @@ fn is_about_all(name: &str) -> bool
 }
 
 /// How the command of this name reads the netlist's text.
-fn reading_of<'a>(name: &str, matches: &ArgMatches<'a>) -> Option<Reading<'a>>
-    ensures { IsAnswered (SaysReading name.now (rows_of (found_of matches.now))) result }
+fn reading_of<'a>(
+    alloc: Global,
+    name: &str,
+    matches: &ArgMatches<'a>,
+) -> Result<Option<Reading<'a>>, AllocError>
+    ensures { IfOk result (IsAnswered (SaysReading name.now (rows_of (found_of matches.now)))) }
 {
     if is_about_all(name) {
-        return whole_reading(matches);
+        return Ok(whole_reading(alloc, matches));
     }
-    reading(matches)
+    reading(alloc, matches)
 }
 
 /// What each command says: its file, how its text is read, in which form the report goes out, and
 /// whether hints are asked for.
-#[derive(Clone, Copy)]
+#[derive(Drop)]
 struct Common<'a> {
     file: &'a str,
     reading: Reading<'a>,
@@ -269,21 +274,33 @@ struct Common<'a> {
     hints: bool,
 }
 
-fn common_of<'a>(name: &str, matches: &ArgMatches<'a>) -> Option<Common<'a>>
+/// What each command says, of a netlist's text that is read so.
+fn common_by<'a>(name: &str, matches: &ArgMatches<'a>, reading: Reading<'a>) -> Option<Common<'a>>
+    requires { SaysReading name.now (rows_of (found_of matches.now)) reading }
     ensures { IsAnswered (SaysCommon name.now (rows_of (found_of matches.now))) result }
 {
     let file = needed(matches, "FILE")?;
     let form = form(matches)?;
     let hints = flag_given(matches, "hints")?;
-    let Some(reading) = reading_of(name, matches) else {
-        return None;
-    };
     Some(Common {
         file,
         reading,
         form,
         hints,
     })
+}
+
+fn common_of<'a>(
+    alloc: Global,
+    name: &str,
+    matches: &ArgMatches<'a>,
+) -> Result<Option<Common<'a>>, AllocError>
+    ensures { IfOk result (IsAnswered (SaysCommon name.now (rows_of (found_of matches.now)))) }
+{
+    match reading_of(alloc, name, matches)? {
+        Some(reading) => Ok(common_by(name, matches, reading)),
+        None => Ok(None),
+    }
 }
 
 /// The request of the command of this name.
@@ -295,7 +312,7 @@ fn request<'a>(
 ) -> Result<Option<Request<'a>>, AllocError>
     ensures { IfOk result (IsAnswered (SaysRequest name.now (rows_of (found_of matches.now)) named.entry.now)) }
 {
-    let Some(common) = common_of(name, matches) else {
+    let Some(common) = common_of(alloc, name, matches)? else {
         return Ok(None);
     };
     match command_of(alloc, name, matches, named)? {

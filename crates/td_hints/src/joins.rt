@@ -63,7 +63,7 @@ pub fn advice<P>(fault: &JoinFault<P>) -> &'static [u8]
         JoinFault::Overlap(_, _) => b"give each part once, and only parts of one call of `parts`",
         JoinFault::Crossed(_, _) => b"give only parts of one call of `parts`",
         JoinFault::Gap(_) => {
-            b"search the missing part: worst with the --first and --second that the line above has, and --cert; then join all"
+            b"search the missing part: worst with the --first and --second that the line above has, and --cert; then join all, or tell join the narrower question"
         }
         JoinFault::FalseNone(_) => b"the certificate is wrong: search that part again",
     }

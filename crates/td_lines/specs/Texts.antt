@@ -164,9 +164,9 @@ accepted_line time high = codes "accepted between " ++ decimal time ++ codes " "
 abbrev pub default_line : ℕ → ℕ → List ℕ
 default_line rise fall = codes "default " ++ decimal rise ++ codes " " ++ decimal fall ++ newline
 
-abbrev pub output_line : Option ℕ → List ℕ
+abbrev pub output_line : Option (List ℕ) → List ℕ
 output_line None = codes "output all" ++ newline
-output_line (Some number) = codes "output " ++ decimal number ++ newline
+output_line (Some numbers) = codes "output" ++ spaced numbers ++ newline
 
 abbrev pub line_text : Line → List ℕ
 line_text (line.Module name) = word_line (codes "module ") name
@@ -196,8 +196,10 @@ line_text (line.Parts parts) = flat_map part_line parts.items
 line_text (line.Accepted time) = number_line (codes "accepted ") time
 line_text (line.AcceptedBetween time high) = accepted_line time high
 line_text line.AcceptedNone = codes "accepted none" ++ newline
+line_text (line.Unchecked time) = number_line (codes "unchecked ") time
+line_text line.UncheckedNone = codes "unchecked none" ++ newline
 line_text (line.Default rise fall) = default_line rise fall
-line_text (line.OutputNumber number) = output_line number
+line_text (line.OutputNumbers numbers) = output_line numbers
 line_text (line.First pins) = word_line (codes "first ") pins
 line_text (line.Second pins) = word_line (codes "second ") pins
 line_text (line.Hold mask) = word_line (codes "hold ") mask

@@ -1,7 +1,7 @@
 -- The JSON of a report: an object with a member for each line.
-use Rattle.std.specs.Prelude.{◌≡◌, ℕ, List, [], ◌∷◌, ◌++◌, codes, decimal, Option, Some, None}
+use Rattle.std.specs.Prelude.{◌≡◌, ℕ, true, List, [], ◌∷◌, ◌++◌, codes, decimal, Option, Some, None}
 use Rattle.std.specs.List.{flat_map}
-use Rattle.json.specs.Json.{Json, null, number, string, array, object, Items, no_items, item, Members, no_members, member}
+use Rattle.json.specs.Json.{Json, null, boolean, number, string, array, object, Items, no_items, item, Members, no_members, member}
 use Rattle.json.specs.Token.{Token}
 use Rattle.json.specs.Print.{print}
 use Rattle.json.specs.Token as token
@@ -106,9 +106,9 @@ abbrev pub delays_text : ℕ → ℕ → List ℕ
 delays_text rise fall = decimal rise ++ codes " " ++ decimal fall
 
 -- the number of an output, or that all are meant
-abbrev pub output_value : Option ℕ → Json
+abbrev pub output_value : Option (List ℕ) → Json
 output_value None = named (codes "all")
-output_value (Some count) = array (item (array (item (number (decimal count)) no_items)) no_items)
+output_value (Some numbers) = array (item (at_value numbers) no_items)
 
 abbrev pub key_of : Line → List ℕ
 key_of (line.Module name) = codes "module"
@@ -138,8 +138,10 @@ key_of (line.Parts parts) = codes "parts"
 key_of (line.Accepted time) = codes "accepted"
 key_of (line.AcceptedBetween time high) = codes "accepted"
 key_of line.AcceptedNone = codes "accepted"
+key_of (line.Unchecked time) = codes "unchecked"
+key_of line.UncheckedNone = codes "unchecked"
 key_of (line.Default rise fall) = codes "default"
-key_of (line.OutputNumber count) = codes "output"
+key_of (line.OutputNumbers numbers) = codes "output"
 key_of (line.First pins) = codes "first"
 key_of (line.Second pins) = codes "second"
 key_of (line.Hold mask) = codes "hold"
@@ -176,8 +178,10 @@ value_of (line.Parts parts) = array (items_by part_value parts.items)
 value_of (line.Accepted time) = number (decimal time)
 value_of (line.AcceptedBetween time high) = null
 value_of line.AcceptedNone = null
+value_of (line.Unchecked time) = number (decimal time)
+value_of line.UncheckedNone = null
 value_of (line.Default rise fall) = string (delays_text rise fall)
-value_of (line.OutputNumber count) = output_value count
+value_of (line.OutputNumbers numbers) = output_value numbers
 value_of (line.First pins) = string pins
 value_of (line.Second pins) = string pins
 value_of (line.Hold mask) = string mask
@@ -197,6 +201,6 @@ abbrev pub members_of : List Line → Members
 members_of [] = no_members
 members_of (printed ∷ lines) = member (key_of printed) (value_of printed) (members_of lines)
 
--- on one line
+-- whether the program is proved, and then the lines, on one line
 abbrev pub report_json : List Line → List ℕ
-report_json report = print (json_tokens (object (members_of report))) ++ newline
+report_json report = print (json_tokens (object (member (codes "proved") (boolean true) (members_of report)))) ++ newline

@@ -5,7 +5,8 @@ ghost use Rattle.json.specs.Json.{string};
 ghost use Rattle.json.specs.Tree.{json_tokens};
 ghost use Rattle.td_lines.specs.Values.{Adds, member_tokens, delays_text, output_value};
 
-use crate::members::{output, word};
+use crate::members::{moments_value, output, word};
+use crate::moments::Moments;
 use json::Writer;
 use std::alloc::{AllocError, Global};
 
@@ -29,30 +30,31 @@ pub(crate) fn default(
     word(writer, "default", &words)
 }
 
-/// A number in an array of its own.
-fn row(writer: &mut Writer, number: u64) -> Result<(), AllocError>
-    ensures { OnOk result (Adds writer.old writer.new (json_tokens (output_value (Some number)))) }
+/// Numbers in an array of their own.
+fn row(writer: &mut Writer, numbers: &[u64]) -> Result<(), AllocError>
+    ensures { OnOk result (Adds writer.old writer.new (json_tokens (output_value (Some numbers.now)))) }
 {
     writer.begin_array()?;
-    writer.begin_array()?;
-    writer.u64(number)?;
-    writer.end_array()?;
+    moments_value(writer, numbers)?;
     writer.end_array()
 }
 
-fn numbered(writer: &mut Writer, number: u64) -> Result<(), AllocError>
-    ensures { OnOk result (Adds writer.old writer.new (member_tokens (codes "output") (output_value (Some number)))) }
+fn numbered(writer: &mut Writer, numbers: &Moments) -> Result<(), AllocError>
+    ensures { OnOk result (Adds writer.old writer.new (member_tokens (codes "output") (output_value (Some numbers.now)))) }
 {
     writer.key("output")?;
-    row(writer, number)
+    row(writer, numbers.all())
 }
 
-/// The number of an output, or that all are meant.
-pub(crate) fn output_number(writer: &mut Writer, number: Option<u64>) -> Result<(), AllocError>
-    ensures { OnOk result (Adds writer.old writer.new (member_tokens (codes "output") (output_value number))) }
+/// The numbers of outputs, or that all are meant.
+pub(crate) fn output_numbers(
+    writer: &mut Writer,
+    numbers: &Option<Moments>,
+) -> Result<(), AllocError>
+    ensures { OnOk result (Adds writer.old writer.new (member_tokens (codes "output") (output_value numbers.now))) }
 {
-    match number {
+    match numbers {
         None => output(writer, "all"),
-        Some(number) => numbered(writer, number),
+        Some(numbers) => numbered(writer, numbers),
     }
 }

@@ -12,8 +12,6 @@ mod line;
 mod members;
 mod moments;
 mod report;
-#[cfg(test)]
-mod tests;
 mod text;
 mod texts;
 mod vector;

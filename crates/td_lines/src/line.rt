@@ -147,13 +147,17 @@ pub enum Line {
     },
     /// Where it claims that no pair is admitted.
     AcceptedNone,
+    /// The time of certificates that are joined and weren't checked.
+    Unchecked(u64),
+    /// Where they claim that no pair is admitted.
+    UncheckedNone,
     /// The delays of gates that state none, in steps, of a certificate.
     Default {
         rise: u64,
         fall: u64,
     },
-    /// The number of the output that it is about, or that it is about all.
-    OutputNumber(Option<u64>),
+    /// The numbers of the outputs that it is about, or that it is about all.
+    OutputNumbers(Option<Moments>),
     /// What is pinned in the first vector, of a certificate.
     First(Label),
     /// And in the second.

@@ -62,12 +62,18 @@ fn lists<V: Valued>(writer: &mut Writer, key: &str, items: &[V]) -> Result<(), A
     list(writer, items)
 }
 
-/// The JSON of a report, a text of one line.
+/// Whether the program is proved: `build/unproved.py` compiles one that says that it isn't.
+const IS_PROVED: bool = true;
+
+/// The JSON of a report, a text of one line: whether the program is proved, and then a member for
+/// each of the report's lines.
 pub fn print_json(alloc: Global, report: &[Line]) -> Result<Vec<u8>, AllocError>
     ensures { IfOk result (λ text. text.items ≡ report_json report.now) }
 {
     let mut writer = Writer::new(Vec::new(alloc));
     writer.begin_object()?;
+    writer.key("proved")?;
+    writer.boolean(IS_PROVED)?;
     object(alloc, &mut writer, report)?;
     let mut text = writer.into_inner();
     text.push(b'\n')?;
@@ -117,8 +123,10 @@ fn member(alloc: Global, writer: &mut Writer, line: &Line) -> Result<(), AllocEr
         Line::Accepted(time) => count_of(writer, "accepted", *time),
         Line::AcceptedBetween { .. } => bound(writer, "accepted", None),
         Line::AcceptedNone => bound(writer, "accepted", None),
+        Line::Unchecked(time) => count_of(writer, "unchecked", *time),
+        Line::UncheckedNone => bound(writer, "unchecked", None),
         Line::Default { rise, fall } => claims::default(alloc, writer, *rise, *fall),
-        Line::OutputNumber(number) => claims::output_number(writer, *number),
+        Line::OutputNumbers(numbers) => claims::output_numbers(writer, numbers),
         Line::First(pins) => word(writer, "first", pins.text()),
         Line::Second(pins) => word(writer, "second", pins.text()),
         Line::Hold(mask) => word(writer, "hold", mask.text()),
@@ -437,7 +445,7 @@ impl Valued for Row {
 }
 
 /// The moments, or null where there are no inputs.
-fn moments_value(writer: &mut Writer, moments: &[u64]) -> Result<(), AllocError>
+pub(crate) fn moments_value(writer: &mut Writer, moments: &[u64]) -> Result<(), AllocError>
     ensures { OnOk result (Adds writer.old writer.new (json_tokens (at_value moments.now))) }
 {
     if moments.is_empty() {

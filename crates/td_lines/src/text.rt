@@ -73,8 +73,10 @@ impl Printed for Line {
             Line::Accepted(time) => number(out, b"accepted ", *time),
             Line::AcceptedBetween { time, high } => accepted_between(out, *time, *high),
             Line::AcceptedNone => out.push(b"accepted none\n"),
+            Line::Unchecked(time) => number(out, b"unchecked ", *time),
+            Line::UncheckedNone => out.push(b"unchecked none\n"),
             Line::Default { rise, fall } => default(out, *rise, *fall),
-            Line::OutputNumber(number) => output_number(out, *number),
+            Line::OutputNumbers(numbers) => output_numbers(out, numbers),
             Line::First(pins) => word(out, b"first ", pins),
             Line::Second(pins) => word(out, b"second ", pins),
             Line::Hold(mask) => word(out, b"hold ", mask),
@@ -408,13 +410,21 @@ fn default(out: &mut Text, rise: u64, fall: u64) -> Result<(), AllocError>
     out.number_between(b" ", fall, b"\n")
 }
 
-fn output_number(out: &mut Text, number: Option<u64>) -> Result<(), AllocError>
-    ensures { OnOk result (out.new ≡ out.old ++ output_line number) }
+fn output_numbers(out: &mut Text, numbers: &Option<Moments>) -> Result<(), AllocError>
+    ensures { OnOk result (out.new ≡ out.old ++ output_line numbers.now) }
 {
-    match number {
+    match numbers {
         None => out.push(b"output all\n"),
-        Some(number) => out.number_between(b"output ", number, b"\n"),
+        Some(numbers) => numbered(out, numbers),
     }
+}
+
+fn numbered(out: &mut Text, numbers: &Moments) -> Result<(), AllocError>
+    ensures { OnOk result (out.new ≡ out.old ++ output_line (Some numbers.now)) }
+{
+    out.push(b"output")?;
+    spaced(out, numbers.all())?;
+    out.push(b"\n")
 }
 
 fn refused(out: &mut Text, number: u8, name: &str, line: Option<u32>) -> Result<(), AllocError>

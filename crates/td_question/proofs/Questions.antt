@@ -22,7 +22,7 @@ use Rattle.td_gates.specs.declared.primitives.Level.{Level}
 use Rattle.td_question.specs.declared.vector.VectorWord.{VectorWord}
 use Rattle.td_question.specs.declared.vector.VectorWord.TheVariants.{At}
 use Rattle.td_question.specs.Vectors.{level_character, SpellsVector, VectorWords, IsFirstBad, AreMomentsOf, GivesMoments}
-use Rattle.td_question.specs.Asking.{most_flips, Admits, AreAdmitted, SayTogether, IsAsked, IsCube, ArePinsOf, IsPinned, IsPair, Pins, ArePinned, AreSpelled, IsWordFault, IsFaultOf, IsFaultOfAny, pair_words, placed_words}
+use Rattle.td_question.specs.Asking.{most_flips, Admits, AreAdmitted, SayTogether, IsAsked, IsCube, IsPair, Pins, ArePinned, AreSpelled, IsWordFault, IsFaultOf, IsFaultOfAny, pair_words, placed_words}
 use Rattle.td_question.specs.declared.fault.QuestionFault.{QuestionFault}
 use Rattle.td_question.specs.declared.fault.QuestionFault.TheVariants as fault
 use Rattle.td_question.proofs.Vectors.{given-length}
@@ -104,12 +104,6 @@ module _ (text : List ℕ) (reading : Reading) (inputs : Inputs) (netlist : Netl
     moments = subst (λ (n : Netlist). AreMomentsOf (length n.inputs) words.at setting.moments) (sym are.is) are.moments;
     pins = subst (λ (n : Netlist). Pins (length n.inputs) words cube) (sym are.is) are.pins;
   }
-
-  pub is_pinned : (circuits : Numbered) (other : Numbered) (given : Option (List Trit)) → circuits.netlist ≡ netlist → other ≡ circuits
-      → ArePinsOf (length netlist.inputs) words given → IsPinned text reading inputs other.netlist given
-  is_pinned circuits other given same is are =
-      subst (λ (n : Netlist). IsPinned text reading inputs n given) (sym (ap (λ (c : Numbered). c.netlist) is ∙ same))
-      (record { circuit = circuit; words = words; together = together; pins = are })
 
   pub is_pair : (from to : List ℕ) (setting : Setting) (first second : List Level) → AreSpelled netlist words from to setting first second
       → IsPair text reading inputs from to setting first second

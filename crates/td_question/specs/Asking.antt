@@ -154,23 +154,6 @@ pub record IsPair (text : List ℕ) (reading : Reading) (inputs : Inputs) (from 
 abbrev pub vector_words : List ℕ → List ℕ → Placed → VectorWords
 vector_words from to words = (From, SpellsLevels from) ∷ (To, SpellsLevels to) ∷ (At, GivesMoments words.at) ∷ []
 
--- ---- what is pinned in all pairs
-
--- the words by place give these pins for that many inputs, or none where both words are left out
-abbrev pub ArePinsOf : ℕ → Placed → Option (List Trit) → Type 0
-ArePinsOf inputs words None = (words.first ≡ None) × (words.second ≡ None)
-ArePinsOf inputs words (Some cube) = ¬ ((words.first ≡ None) × (words.second ≡ None)) × Pins inputs words cube
-
--- the netlist that is read of the text has no loop, and what is said of its inputs pins this
-pub record IsPinned (text : List ℕ) (reading : Reading) (inputs : Inputs) (netlist : Netlist) (given : Option (List Trit)) : Type 0 where
-  pub circuit : HasCircuit text reading netlist
-  pub words : Placed
-  pub together : SayTogether netlist inputs words
-  pub pins : ArePinsOf (length netlist.inputs) words given
-
-abbrev pub pin_words : Placed → VectorWords
-pin_words words = (First, GivesTrits words.first) ∷ (Second, GivesTrits words.second) ∷ []
-
 -- ---- what words by place say of a netlist
 
 -- these pins of this netlist's inputs, which have the moments of the words

@@ -1,11 +1,11 @@
 //! What a request asks of a netlist's text.
 
-ghost use Rattle.std.specs.Prelude.{◌≡◌, ◌<◌, ◌^◌, length, IfOk, IfErr};
+ghost use Rattle.std.specs.Prelude.{◌≡◌, ◌<◌, ◌^◌, length, option_map, IfOk, IfErr};
 ghost use Rattle.td_circuit.specs.Numbering.{setting};
 ghost use Rattle.td_inputs.specs.Placings.{words_by_place};
 ghost use Rattle.td_question.specs.Asking.{most_flips, Admits, AreAdmitted, IsAsked, SayTogether, pair_words, placed_words, IsWordFault, IsQuestionFault};
 ghost use Rattle.td_question.specs.Vectors.{IsFirstBad};
-ghost use Rattle.td_source.specs.Reads.{IsOutputOf};
+ghost use Rattle.td_source.specs.Reads.{AreOutputsOf};
 
 use crate::fault::QuestionFault;
 use crate::placed::{Placed, placed_on};
@@ -23,8 +23,8 @@ use td_request::Question;
 pub struct Asked {
     pub circuit: Circuit,
     pub admit: Admit,
-    /// The number of the output that is asked about, where one is named.
-    pub output: Option<usize>,
+    /// The numbers of the outputs that are asked about, rising, where some are named.
+    pub outputs: Option<Vec<u64>>,
     /// The words by place that say what all words about inputs say together.
     pub words: ByPlace,
 }
@@ -41,7 +41,7 @@ pub fn question_of<'a, 'w>(
     question: &Question<'w>,
 ) -> Result<Asked, QuestionFault<'a, 'w>>
     ensures asked { IfOk result (λ asked. IsAsked text.now reading.now question.now (setting asked.circuit) asked.admit) }
-    ensures output { IfOk result (λ asked. IsOutputOf text.now reading.now asked.output) }
+    ensures outputs { IfOk result (λ asked. AreOutputsOf text.now reading.now (option_map (λ numbers. numbers.items) asked.outputs)) }
     ensures together { IfOk result (λ asked. SayTogether asked.circuit.netlist question.now.inputs (words_by_place asked.words)) }
     ensures fault { IfErr result (IsQuestionFault text.now reading.now question.now) }
 {
@@ -49,10 +49,10 @@ pub fn question_of<'a, 'w>(
         Ok(placed) => {
             let Placed {
                 circuit,
-                output,
+                outputs,
                 words,
             } = placed;
-            asked_by(alloc, circuit, output, words, question.flips)
+            asked_by(alloc, circuit, outputs, words, question.flips)
         }
         Err(fault) => Err(fault),
     }
@@ -62,13 +62,13 @@ pub fn question_of<'a, 'w>(
 fn asked_by<'a, 'w>(
     alloc: Global,
     circuit: Circuit,
-    output: Option<usize>,
+    outputs: Option<Vec<u64>>,
     words: ByPlace,
     flips: Option<u64>,
 ) -> Result<Asked, QuestionFault<'a, 'w>>
     requires { length circuit.netlist.inputs < 2 ^ 32 }
     ensures asked { IfOk result (λ asked. AreAdmitted circuit.netlist (words_by_place words) flips (setting asked.circuit) asked.admit) }
-    ensures output { IfOk result (λ asked. asked.output ≡ output) }
+    ensures outputs { IfOk result (λ asked. asked.outputs ≡ outputs) }
     ensures words { IfOk result (λ asked. (asked.circuit.netlist ≡ circuit.netlist) × (words_by_place asked.words ≡ words_by_place words)) }
     ensures fault { IfErr result (IsWordFault (length circuit.netlist.inputs) (placed_words (words_by_place words))) }
 {
@@ -77,7 +77,7 @@ fn asked_by<'a, 'w>(
         Ok(admit) => Ok(Asked {
             circuit,
             admit,
-            output,
+            outputs,
             words,
         }),
         Err(word) => Err(QuestionFault::BadVector(word)),

@@ -9,10 +9,7 @@ mod cube;
 mod fault;
 mod names;
 mod pair;
-mod pins;
 mod placed;
-#[cfg(test)]
-mod tests;
 pub mod timing;
 pub mod vector;
 
@@ -20,4 +17,3 @@ pub use asking::{Asked, question_of};
 pub use cube::{CubeAsked, cube_of};
 pub use fault::QuestionFault;
 pub use pair::{PairAsked, pair_of};
-pub use pins::{PinsAsked, pins_of};

@@ -1,8 +1,8 @@
 //! A text's circuit, and what is said of its inputs by place and by name, by place alone.
 
-ghost use Rattle.std.specs.Prelude.{◌<◌, ◌^◌, length, IfOk, IfErr};
+ghost use Rattle.std.specs.Prelude.{◌<◌, ◌^◌, length, option_map, IfOk, IfErr};
 ghost use Rattle.td_inputs.specs.Placings.{words_by_place};
-ghost use Rattle.td_source.specs.Reads.{HasCircuit, IsOutputOf};
+ghost use Rattle.td_source.specs.Reads.{HasCircuit, AreOutputsOf};
 ghost use Rattle.td_question.specs.Asking.{SayTogether, IsFaultOfAny};
 
 use crate::fault::QuestionFault;
@@ -15,12 +15,12 @@ use td_reading::Reading;
 use td_request::Inputs;
 use td_source::source_of;
 
-/// A circuit, the number of the output that is asked about, where one is, and the words by place
+/// A circuit, the numbers of the outputs that are asked about, where some are, and the words by place
 /// that say of its inputs what all words say together.
 #[derive(Drop)]
 pub(crate) struct Placed {
     pub(crate) circuit: Circuit,
-    pub(crate) output: Option<usize>,
+    pub(crate) outputs: Option<Vec<u64>>,
     pub(crate) words: ByPlace,
 }
 
@@ -38,7 +38,7 @@ pub(crate) fn placed_on<'a, 'w>(
     inputs: &Inputs<'w>,
 ) -> Result<Placed, QuestionFault<'a, 'w>>
     ensures circuit { IfOk result (λ placed. HasCircuit text.now reading.now placed.circuit.netlist) }
-    ensures output { IfOk result (λ placed. IsOutputOf text.now reading.now placed.output) }
+    ensures outputs { IfOk result (λ placed. AreOutputsOf text.now reading.now (option_map (λ numbers. numbers.items) placed.outputs)) }
     ensures few { IfOk result (λ placed. length placed.circuit.netlist.inputs < 2 ^ 32) }
     ensures together { IfOk result (λ placed. SayTogether placed.circuit.netlist inputs.now (words_by_place placed.words)) }
     ensures fault { IfErr result (IsFaultOfAny text.now reading.now inputs.now) }
@@ -49,7 +49,7 @@ pub(crate) fn placed_on<'a, 'w>(
     match options {
         Ok(Some(words)) => Ok(Placed {
             circuit: source.circuit,
-            output: source.output,
+            outputs: source.outputs,
             words,
         }),
         Ok(None) => {

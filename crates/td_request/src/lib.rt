@@ -1,6 +1,6 @@
 //! What the words of a command line say, as values.
 //!
-//!     Request ─┬─ file, reading (default delay, output), form, hints
+//!     Request ─┬─ file, reading (default delay, outputs), form, hints
 //!              └─ command ─┬─ Sim, Path, Bound, Check, Join, Info
 //!                          ├─ Worst ── question, strategy, effort, files, shown, each
 //!                          └─ Parts ── question, strategy, count

@@ -3,7 +3,7 @@
 use crate::effort::{Count, Effort};
 use crate::files::Files;
 use crate::question::{Inputs, Question};
-use td_reading::Reading;
+use td_reading::{Reading, Told};
 
 /// In which form a report goes out.
 #[derive(Clone, Copy, Debug, PartialEq, Eq, Drop)]
@@ -96,12 +96,12 @@ pub struct Parts<'a> {
 pub struct Join<'a> {
     /// The files of the parts' certificates, in order.
     pub parts: Files<'a>,
-    /// Where the certificate of the whole question goes.
+    /// The whole question.
+    pub question: Question<'a>,
+    /// Where its certificate goes.
     pub certificate: Option<&'a str>,
-    /// Whether each part's certificate is checked too.
+    /// Whether each part's certificate is checked.
     pub check: bool,
-    /// What is pinned in all pairs of the whole question.
-    pub inputs: Inputs<'a>,
 }
 
 /// The verdict on a certificate.
@@ -109,6 +109,8 @@ pub struct Join<'a> {
 pub struct Check<'a> {
     /// The certificate's file.
     pub certificate: &'a str,
+    /// What is said of how the netlist is read.
+    pub told: Told,
 }
 
 /// What is to be done.

@@ -17,9 +17,18 @@ fn knows_codes<R: Env + Alloc>(rt: &R) -> bool {
     }
 }
 
+/// Whether the environment asks for hints.
+fn asks_for_hints<R: Env + Alloc>(rt: &R) -> bool {
+    match env::var(rt, "TDELAY_HINTS") {
+        Ok(value) => value.as_str() == "1",
+        Err(_) => false,
+    }
+}
+
 fn main(rt: HostRuntime) -> ExitCode {
     let alloc = rt.alloc();
     let terminal = rt.stderr().is_terminal();
+    let hints = terminal || asks_for_hints(&rt);
     let mut files = RealFiles::new(&rt);
     let mut out = WriterSink::new(rt.stdout());
     let mut err = InPlace::new(WriterSink::new(rt.stderr()), terminal && knows_codes(&rt));
@@ -30,7 +39,7 @@ fn main(rt: HostRuntime) -> ExitCode {
     let status = match words {
         Ok(words) => {
             let words = words.as_slice();
-            program(&rt, alloc, words, &mut files, &mut out, &mut err, terminal)
+            program(&rt, alloc, words, &mut files, &mut out, &mut err, hints)
         }
         Err(error) => refuse_words(ReadFault::from(error), &mut err),
     };

@@ -1,38 +1,22 @@
-use Rattle.std.proofs.Common.{◌≤◌, ℕ, List, length, arith, subst, sym}
-use Rattle.std.specs.List.{Contains}
-use Rattle.std.proofs.lemmas.Result.{err_from_is_err_and}
-use Rattle.std.proofs.lemmas.List.Elements.{Contains-get_or}
+use Rattle.std.proofs.Common.{◌≡◌, ◌<◌, ◌∙◌, List, length, map, sym, ap, subst, arith, Some, slice_get}
+use Rattle.std.proofs.lemmas.List.{length-map}
+use Rattle.td_gates.proofs.Places.{slice_get-within}
+use Rattle.td_nets.specs.Netlist.{Name}
+use Rattle.td_nets.specs.Views.{name_of}
+use Rattle.td_circuit.specs.Numbering.{Numbered, setting}
 use Rattle.td_answer.specs.Tables.{IsTrueRow}
-use Rattle.td_answer.proofs.Zips.{zip_more, zip_all}
+use Rattle.td_answer.proofs.Zips.{zip_next}
 use Rattle.td_answer.proofs.each.rows.Goals as goal
 
-pub loop-name-preserved : goal.loop-name-preserved
-loop-name-preserved g c =
-    rw c.in_ok-push.ensures.items (zip_more (IsTrueRow c.args.text.now c.args.reading.now c.args.search.now) c.args.names.now c.loop-name.rows.items
-    c.loop-name.name-index c.name-item.result c.in_ok-row.row c.loop-name-test.true c.loop-name.invariant
-    (subst (λ (name : List ℕ). IsTrueRow c.args.text.now c.args.reading.now c.args.search.now name c.in_ok-row.row) c.name-item.is
-    (rw c.text.ensures at c.in_ok-row.ensures.row)))
-
-pub returns-clause-rows : goal.returns-clause-rows
-returns-clause-rows g c =
-    let past : length c.args.names.now ≤ c.loop-name.name-index = omega arith in
-    zip_all (IsTrueRow c.args.text.now c.args.reading.now c.args.search.now) c.args.names.now c.loop-name.rows.items c.loop-name.name-index past c.loop-name.invariant
-
-pub returns-in_err-row-clause-refusal : goal.returns-in_err-row-clause-refusal
-returns-in_err-row-clause-refusal g c =
-    let reported = err_from_is_err_and c.from_residual.result c.from_residual.ensures.1 in
-    rw (reported.1, reported.2) (
-      c.name-item.result,
-      subst (λ (name : List ℕ). Contains c.args.names.now name) (sym c.name-item.is) (Contains-get_or c.args.names.now c.loop-name.name-index c.name-item.result c.loop-name-test.true),
-      rw c.text.ensures at c.in_err-row.ensures.refusal,
-    )
-
-pub returns-in_err-push-clause-refusal : goal.returns-in_err-push-clause-refusal
-returns-in_err-push-clause-refusal g c =
-    let reported = err_from_is_err_and c.from_residual-in_err-push.result c.from_residual-in_err-push.ensures.1 in
-    let row = rw c.text.ensures at c.in_ok-row.ensures.row in
-    rw (reported.1, reported.2) (
-      c.name-item.result,
-      subst (λ (name : List ℕ). Contains c.args.names.now name) (sym c.name-item.is) (Contains-get_or c.args.names.now c.loop-name.name-index c.name-item.result c.loop-name-test.true),
-      (row.word, row.word_is, tt),
+pub loop-place-preserved : goal.loop-place-preserved
+loop-place-preserved g c =
+    let outputs = c.args.outputs.now.whole.netlist.outputs in
+    let less : c.loop-place.place < length c.args.outputs.now.whole.netlist.outputs =
+    omega (arith, length-map c.names-count.result.now name_of, ap (λ (ns : List Name). length ns) c.names-count.ensures, c.loop-place-test.true) in
+    let there = slice_get-within c.args.outputs.now.whole.netlist.outputs c.loop-place.place less in
+    let row = subst (λ (whole : Numbered). slice_get whole.netlist.outputs c.loop-place.place ≡ Some there.0 → IsTrueRow (setting whole) c.args.admit.now there.0 c.in_ok-row.row)
+    c.loop-place.invariant.0 (c.in_ok-row.ensures.row there.0) there.1 in (
+      c.in_ok-row.ensures.whole ∙ c.loop-place.invariant.0,
+      rw c.in_ok-push.ensures.items (zip_next (IsTrueRow (setting c.args.outputs.now.whole) c.args.admit.now) c.args.outputs.now.whole.netlist.outputs c.loop-place.rows.items
+          c.loop-place.place there.0 c.in_ok-row.row there.1 c.loop-place.invariant.1 row),
     )

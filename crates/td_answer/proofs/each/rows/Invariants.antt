@@ -1,8 +1,11 @@
-use Rattle.std.proofs.Common.{take}
+use Rattle.std.proofs.Common.{◌≡◌, take}
 use Rattle.std.specs.List.{AllZip}
+use Rattle.td_circuit.specs.Numbering.{setting}
 use Rattle.td_answer.specs.Tables.{IsTrueRow}
 use Rattle.td_answer.proofs.each.rows.Given as goal
 
--- a row for each name so far
-abbrev pub invariant-loop-name : goal.invariant-loop-name
-invariant-loop-name g l = AllZip (IsTrueRow l.text l.reading l.search) (take l.name-index l.names) l.rows.items
+-- the outputs stay, and a row for each of the first ones is there
+abbrev pub invariant-loop-place : goal.invariant-loop-place
+invariant-loop-place g l =
+    (l.outputs.whole ≡ l.initial.outputs.whole)
+    × AllZip (IsTrueRow (setting l.initial.outputs.whole) l.admit) (take l.place l.initial.outputs.whole.netlist.outputs) l.rows.items

@@ -1,33 +1,26 @@
 use Rattle.std.proofs.Common.{◌∙◌, ◌*◌, ap}
 use Rattle.std.proofs.lemmas.Result.{err_from_is_err_and}
-use Rattle.td_circuit.specs.Numbering.{setting}
+use Rattle.td_search.specs.Problems.{problem_by}
 use Rattle.td_worst.specs.Methods.{tree_of}
 use Rattle.td_worst.proofs.Outcomes.{outcome_by}
-use Rattle.td_question.proofs.Questions.{asked_held}
-use Rattle.td_answer.proofs.Searched.{refused, true_found}
+use Rattle.td_answer.proofs.EachOne.{unanswered, true_found}
 use Rattle.td_answer.proofs.each.timing_of.Goals as goal
 
 pub edges_of-requires : goal.edges_of-requires
-edges_of-requires g c =
-    rw c.pins.ensures.pins (c.pins.ensures.fit ∙ ap (λ n. 2 * n) (asked_held c.args.text.now c.args.reading.now c.args.search.now.question (setting c.in_ok-asked.asked.circuit) c.in_ok-asked.asked.admit c.in_ok-asked.ensures.asked))
+edges_of-requires g c = rw c.pins.ensures.pins (c.pins.ensures.fit ∙ ap (λ n. 2 * n) c.requires.held)
 
 pub worst-requires-clause-held : goal.worst-requires-clause-held
-worst-requires-clause-held g c κs within =
-    asked_held c.args.text.now c.args.reading.now c.args.search.now.question (setting c.in_ok-asked.asked.circuit) c.in_ok-asked.asked.admit c.in_ok-asked.ensures.asked
+worst-requires-clause-held g c κs within = c.requires.held
 
 pub returns-in_err-answer-clause-refusal : goal.returns-in_err-answer-clause-refusal
 returns-in_err-answer-clause-refusal g c =
     let reported = err_from_is_err_and c.from_residual-in_err-answer.result c.from_residual-in_err-answer.ensures.1 in
-    rw (reported.1, reported.2) (refused c.args.text.now c.args.reading.now c.args.search.now c.in_ok-asked.asked.circuit c.in_ok-asked.asked.admit
-    (tree_of c.method_of.result) c.in_ok-asked.ensures.asked _ c.in_err-answer.field-0.0 c.effort_of.ensures.timed c.in_err-answer.ensures.fault)
+    rw (reported.1, reported.2) (unanswered c.args.search.now (problem_by (tree_of c.method_of.result) c.args.circuit.now c.args.admit.now)
+    _ c.in_err-answer.field-0.0 c.effort_of.ensures.timed c.in_err-answer.ensures.fault)
 
 pub returns-clause-timing : goal.returns-clause-timing
 returns-clause-timing g c = record {
-  setting = setting c.in_ok-asked.asked.circuit;
-  admit = c.in_ok-asked.asked.admit;
-  asked = c.in_ok-asked.ensures.asked;
-  figure = rw c.found_of.ensures (true_found c.args.text.now c.args.reading.now c.args.search.now c.in_ok-asked.asked.circuit c.in_ok-asked.asked.admit
-      (tree_of c.method_of.result) c.in_ok-asked.ensures.asked c.effort_of.result.effort.budget c.in_ok-answer.answer
+  figure = rw c.found_of.ensures (true_found (problem_by (tree_of c.method_of.result) c.args.circuit.now c.args.admit.now) c.effort_of.result.effort.budget c.in_ok-answer.answer
       (outcome_by c.method_of.result _ c.effort_of.result.effort.budget c.in_ok-answer.answer c.in_ok-answer.ensures.answer));
   bound = rw c.pins.ensures.pins at c.in_ok-edges.ensures.sound;
 }

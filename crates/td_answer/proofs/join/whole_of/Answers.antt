@@ -2,4 +2,5 @@ use Rattle.td_answer.proofs.Whole.{unjoined_for}
 use Rattle.td_answer.proofs.join.whole_of.Goals as goal
 
 pub returns-in-Err-clause-refusal : goal.returns-in-Err-clause-refusal
-returns-in-Err-clause-refusal c = unjoined_for _ _ _ c.in-Err.fault c.unjoined.result c.in-Err.ensures.fault c.unjoined.ensures
+returns-in-Err-clause-refusal c =
+    unjoined_for _ _ c.args.circuit.now.moments c.args.admit.now c.in-Err.fault c.unjoined.result (rw c.pins.ensures.pins at c.in-Err.ensures.fault) c.unjoined.ensures

@@ -6,7 +6,7 @@ use Rattle.td_search.specs.declared.strategy.Strategy.{Strategy}
 use Rattle.td_worst.specs.Methods.{tree_of}
 use Rattle.td_worst.proofs.Outcomes.{outcome_by}
 use Rattle.td_question.proofs.Questions.{asked_held, asked_flips}
-use Rattle.td_answer.specs.Certificates.{CanBeTold}
+use Rattle.td_answer.specs.Certificates.{read_by, CanBeTold}
 use Rattle.std.specs.Prelude.{is_some}
 use Rattle.td_answer.specs.Lines.{pair_in}
 use Rattle.td_answer.specs.Runs.{RunsPair}
@@ -46,10 +46,10 @@ returns-clause-says g c =
 pub returns-clause-certified : goal.returns-clause-certified
 returns-clause-certified g c =
     certified c.args.text.now c.args.reading.now c.args.search.now c.in_ok-asked.asked.circuit c.in_ok-asked.asked.admit (tree_of c.method_of-method.result)
-    c.in_ok-asked.ensures.asked c.effort_of-effort.result.effort.budget _ c.in_ok-answer.answer c.in_ok-outcome.outcome refl c.in_ok-asked.ensures.output
+    c.in_ok-asked.ensures.asked c.effort_of-effort.result.effort.budget (read_by c.args.reading.now.default c.in_ok-asked.asked.outputs) c.in_ok-answer.answer c.in_ok-outcome.outcome refl c.in_ok-asked.ensures.outputs
     (outcome_by c.method_of-method.result _ c.effort_of-effort.result.effort.budget c.in_ok-answer.answer c.in_ok-answer.ensures.answer)
     c.in_ok-answer.ensures.text
-    (subst (λ (s : Strategy). CanBeTold (record { default = c.args.reading.now.default; output = c.in_ok-asked.asked.output }) s c.in_ok-answer.answer) c.strategy.ensures c.in_ok-outcome.ensures.told)
+    (subst (λ (s : Strategy). CanBeTold (read_by c.args.reading.now.default c.in_ok-asked.asked.outputs) s c.in_ok-answer.answer) c.strategy.ensures c.in_ok-outcome.ensures.told)
     c.in_ok-outcome.ensures.report c.in_ok-outcome.ensures.status
     (rw c.strategy.ensures at c.in_ok-outcome.ensures.certified)
 

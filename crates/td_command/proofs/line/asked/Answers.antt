@@ -1,4 +1,4 @@
-use Rattle.std.proofs.Common.{◌≡◌, ◌∙◌, false, inl, map, subst, sym, ap, [], List, ℕ, Option, Some, None, IfNone}
+use Rattle.std.proofs.Common.{◌≡◌, ◌∙◌, false, inl, map, subst, sym, ap, List, ℕ, Option, Some, None, IfNone}
 use Rattle.std.proofs.lemmas.Result.{IfOk-weaker}
 use Rattle.std.specs.Borrow.{Bor}
 use Rattle.clap.specs.Words.{HasKind, Row, Text, subcommand_of, subcommand_rows_of}

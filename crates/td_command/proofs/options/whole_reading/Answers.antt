@@ -1,4 +1,3 @@
-use Rattle.std.proofs.Common.{refl}
 use Rattle.td_command.proofs.options.whole_reading.Goals as goal
 
 pub returns-in_err-default : goal.returns-in_err-default
@@ -6,6 +5,6 @@ returns-in_err-default c = rw c.from_residual.ensures (λ asked has. c.in_err-de
 
 pub returns : goal.returns
 returns c = record {
-  default = c.in_ok-default.ensures;
-  output = refl;
+  default = rw c.whole.ensures.default c.in_ok-default.ensures;
+  outputs = c.whole.ensures.outputs;
 }

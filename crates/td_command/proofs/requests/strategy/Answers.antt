@@ -1,4 +1,3 @@
-use Rattle.std.proofs.Common.{◌∙◌, sym}
 use Rattle.clap.specs.Words.{found_of, rows_of}
 use Rattle.td_command.specs.CommandLine.{behind}
 use Rattle.td_command.specs.Saying.{strategy_word}

@@ -1,5 +1,6 @@
 use Rattle.std.proofs.Common.{sym, subst}
-use Rattle.td_source.specs.Reads.{IsOutputOf}
+use Rattle.std.specs.Prelude.{option_map}
+use Rattle.td_source.specs.Reads.{AreOutputsOf}
 use Rattle.std.proofs.lemmas.Result.{IfOk-weaker, IfErr-weaker}
 use Rattle.td_circuit.specs.Numbering.{setting}
 use Rattle.td_inputs.specs.Placings.{words_by_place}
@@ -22,10 +23,10 @@ returns-in-Ok-clause-fault c = IfErr-weaker c.asked_by.result _ _
 pub returns-in-Err-clause-fault : goal.returns-in-Err-clause-fault
 returns-in-Err-clause-fault c = any_fault c.args.text.now c.args.reading.now c.args.question.now.inputs placed_words c.in-Err.fault c.in-Err.ensures.fault
 
-pub returns-in-Ok-clause-output : goal.returns-in-Ok-clause-output
-returns-in-Ok-clause-output c = IfOk-weaker c.asked_by.result _ _
-    (λ asked is. subst (λ output. IsOutputOf c.args.text.now c.args.reading.now output) (sym is) c.in-Ok.ensures.output)
-    c.asked_by.ensures.output
+pub returns-in-Ok-clause-outputs : goal.returns-in-Ok-clause-outputs
+returns-in-Ok-clause-outputs c = IfOk-weaker c.asked_by.result _ _
+    (λ asked is. subst (λ outputs. AreOutputsOf c.args.text.now c.args.reading.now (option_map (λ numbers. numbers.items) outputs)) (sym is) c.in-Ok.ensures.outputs)
+    c.asked_by.ensures.outputs
 
 pub returns-in-Ok-clause-together : goal.returns-in-Ok-clause-together
 returns-in-Ok-clause-together c = IfOk-weaker c.asked_by.result _ _

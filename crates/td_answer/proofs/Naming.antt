@@ -1,0 +1,13 @@
+-- The options of outputs.
+use Rattle.std.proofs.Common.{◌≡◌, ◌∙◌, ◌++◌, List, ℕ, [], ◌∷◌, map, refl, sym, ap, codes}
+use Rattle.std.specs.Borrow.{Bor}
+use Rattle.std.specs.List.{flat_map}
+use Rattle.std.proofs.lemmas.List.Concat.{flat_map-cons}
+use Rattle.td_answer.specs.Parts.{output_words, outputs_words}
+
+pub outputs_told : (names : List (Bor (List ℕ))) → flat_map output_words names ≡ outputs_words (map (λ name. name.now) names)
+outputs_told [] = refl
+outputs_told (name ∷ names) =
+    flat_map-cons output_words name names
+    ∙ ap (λ (words : List (List ℕ)). output_words name ++ words) (outputs_told names)
+    ∙ sym (flat_map-cons (λ (n : List ℕ). codes "--output" ∷ n ∷ []) name.now (map (λ name. name.now) names))

@@ -1,4 +1,0 @@
-use Rattle.td_answer.proofs.tests.push_certificate.Goals as goal
-
-pub write-requires : goal.write-requires
-write-requires g c = rw c.in-Some.is at c.in-Ok.ensures.certificate

@@ -1,0 +1,11 @@
+//! Requests about small netlists, as values and as words. There are tests here, and nothing else.
+#![tactic(auto)]
+
+#[cfg(test)]
+mod answers;
+#[cfg(test)]
+mod commands;
+#[cfg(test)]
+mod lines;
+#[cfg(test)]
+mod questions;

@@ -1,0 +1,260 @@
+//! Reports in both forms: a line of each kind.
+
+use std::alloc::{AllocError, Global};
+use std::process::Abort;
+use std::test::*;
+use td_gates::{Kind, Level};
+use td_lines::{
+    Cause, Change, Driver, Figure, Found, Label, Last, Line, Moments, Part, Place, Report, Row,
+    Span, Text, Vector, print_json, print_text,
+};
+use td_nets::{Scale, Unit};
+
+fn label(alloc: Global, text: &str) -> Result<Label, AllocError> {
+    let text = String::from_str(alloc, text)?;
+    Ok(Label::new(text))
+}
+
+fn bits(alloc: Global, bits: &[bool]) -> Result<Vector, AllocError> {
+    let bits = Vec::from_slice(alloc, bits)?;
+    Ok(Vector::new(bits))
+}
+
+fn one<T: Drop>(alloc: Global, item: T) -> Result<Vec<T>, AllocError> {
+    let mut items = Vec::new(alloc);
+    items.push(item)?;
+    Ok(items)
+}
+
+/// What a netlist has.
+fn described(alloc: Global) -> Result<Report, AllocError> {
+    let mut report = Report::new(alloc);
+    report.add(Line::Module(label(alloc, "t")?))?;
+    report.add(Line::Unit(Unit {
+        magnitude: 10,
+        scale: Scale::Picoseconds,
+    }))?;
+    report.add(Line::Inputs(1))?;
+    report.add(Line::Outputs(1))?;
+    report.add(Line::Gates(2))?;
+    report.add(Line::Defaulted(0))?;
+    report.add(Line::Depth(2))?;
+    report.add(Line::Delay(Some(Span {
+        least: 2,
+        greatest: 3,
+    })))?;
+    report.add(Line::Delay(None))?;
+    let input = Place {
+        place: 0,
+        net: label(alloc, "\\a+ [1]")?,
+    };
+    report.add(Line::InputPlaces(one(alloc, input)?))?;
+    let output = Place {
+        place: 0,
+        net: label(alloc, "y")?,
+    };
+    report.add(Line::OutputPlaces(one(alloc, output)?))?;
+    Ok(report)
+}
+
+/// What the run of a pair is, and bounds.
+fn simulated(alloc: Global) -> Result<Report, AllocError> {
+    let mut report = Report::new(alloc);
+    let mut rows = Vec::new(alloc);
+    rows.push(Last {
+        output: label(alloc, "y")?,
+        moment: Some(5),
+    })?;
+    rows.push(Last {
+        output: label(alloc, "z")?,
+        moment: None,
+    })?;
+    report.add(Line::Lasts(rows))?;
+    report.add(Line::Time(5))?;
+    report.add(Line::Output(label(alloc, "y")?))?;
+    let mut changes = Vec::new(alloc);
+    changes.push(Change {
+        moment: 0,
+        net: label(alloc, "a")?,
+        from: Level::Zero,
+        to: Level::X,
+        by: None,
+    })?;
+    changes.push(Change {
+        moment: 5,
+        net: label(alloc, "y")?,
+        from: Level::X,
+        to: Level::One,
+        by: Some(Driver {
+            kind: Kind::Xnor,
+            delay: 5,
+        }),
+    })?;
+    report.add(Line::Changes(changes))?;
+    report.add(Line::Bound(Figure::Arrivals, Some(7)))?;
+    report.add(Line::Bound(Figure::Possibles, None))?;
+    Ok(report)
+}
+
+/// What searches found, and parts.
+fn searched(alloc: Global) -> Result<Report, AllocError> {
+    let mut report = Report::new(alloc);
+    report.add(Line::Exact(5))?;
+    report.add(Line::Between { low: 2, high: 5 })?;
+    report.add(Line::NoPair)?;
+    report.add(Line::Cause(Cause::Budget))?;
+    report.add(Line::From(bits(alloc, &[false, true])?))?;
+    report.add(Line::To(bits(alloc, &[])?))?;
+    report.add(Line::Nodes(9))?;
+    let mut rows = Vec::new(alloc);
+    rows.push(Row {
+        output: label(alloc, "y")?,
+        found: Found::Exact(5),
+        edges: Some(7),
+    })?;
+    rows.push(Row {
+        output: label(alloc, "exact")?,
+        found: Found::Between { low: 2, high: 5 },
+        edges: None,
+    })?;
+    report.add(Line::Each(rows))?;
+    let mut words = Vec::new(alloc);
+    words.push(label(alloc, "--first")?)?;
+    words.push(label(alloc, "0.")?)?;
+    report.add(Line::Parts(one(alloc, Part { words })?))?;
+    Ok(report)
+}
+
+/// What a certificate is about.
+fn checked(alloc: Global) -> Result<Report, AllocError> {
+    let mut report = Report::new(alloc);
+    report.add(Line::Accepted(5))?;
+    report.four(
+        Line::First(label(alloc, "0.")?),
+        Line::Second(label(alloc, "..")?),
+        Line::Hold(label(alloc, "=.")?),
+        Line::Flips(1),
+    )?;
+    let mut moments = Vec::new(alloc);
+    moments.push(0u64)?;
+    moments.push(7u64)?;
+    report.add(Line::At(Moments::new(moments)))?;
+    report.add(Line::At(Moments::new(Vec::new(alloc))))?;
+    report.add(Line::Refused {
+        number: 7,
+        name: "OtherCircuit",
+        line: None,
+    })?;
+    report.add(Line::Refused {
+        number: 3,
+        name: "LeafBound",
+        line: Some(12),
+    })?;
+    Ok(report)
+}
+
+/// What a certificate of the fourth version is about.
+fn told(alloc: Global) -> Result<Report, AllocError> {
+    let mut report = Report::new(alloc);
+    report.add(Line::AcceptedBetween { time: 2, high: 5 })?;
+    report.add(Line::AcceptedNone)?;
+    report.add(Line::Unchecked(3))?;
+    report.add(Line::UncheckedNone)?;
+    report.add(Line::Default { rise: 1, fall: 3 })?;
+    report.add(Line::OutputNumbers(None))?;
+    let mut numbers = Vec::new(alloc);
+    numbers.push(4u64)?;
+    report.add(Line::OutputNumbers(Some(Moments::new(numbers))))?;
+    report.add(Line::Keep(label(alloc, "2 01 5 ==")?))?;
+    Ok(report)
+}
+
+/// Whether a report is printed so.
+fn prints(
+    rt: &impl Abort,
+    alloc: Global,
+    report: &Report,
+    text: &str,
+    json: &str,
+) -> Result<(), Fail> {
+    let mut out = Text::new(alloc);
+    print_text(&mut out, report.lines())?;
+    assert_eq!(rt; out.bytes(), text.as_bytes());
+    let printed = print_json(alloc, report.lines())?;
+    assert_eq!(rt; printed.as_slice(), json.as_bytes());
+    Ok(())
+}
+
+#[test]
+fn prints_a_netlist(rt: HostRuntime) -> Result<(), Fail> {
+    let report = described(rt.alloc())?;
+    prints(
+        &rt,
+        rt.alloc(),
+        &report,
+        "module t\nunit 10 ps\ninputs 1\noutputs 1\ngates 2\ndefaulted 0\ndepth 2\ndelay 2 3\n\
+delay none\ninput 0 \\a+ [1]\noutput 0 y\n",
+        "{\"proved\":true,\"module\":\"t\",\"unit\":\"10 ps\",\"inputs\":1,\"outputs\":1,\"gates\":2,\"defaulted\":0,\
+\"depth\":2,\"delay\":[2,3],\"delay\":null,\"input\":[[0,\"\\\\a+ [1]\"]],\"output\":[[0,\"y\"]]}\n",
+    )
+}
+
+#[test]
+fn prints_a_run(rt: HostRuntime) -> Result<(), Fail> {
+    let report = simulated(rt.alloc())?;
+    prints(
+        &rt,
+        rt.alloc(),
+        &report,
+        "last y 5\nlast z never\ntime 5\noutput y\nchange 0 a 0 x input\nchange 5 y x 1 xnor 5\n\
+a 7\nt none\n",
+        "{\"proved\":true,\"last\":[[\"y\",5],[\"z\",null]],\"time\":5,\"output\":[\"y\"],\
+\"change\":[[0,\"a\",\"0\",\"x\",\"input\"],[5,\"y\",\"x\",\"1\",\"xnor\",5]],\"a\":7,\"t\":null}\n",
+    )
+}
+
+#[test]
+fn prints_a_search(rt: HostRuntime) -> Result<(), Fail> {
+    let report = searched(rt.alloc())?;
+    prints(
+        &rt,
+        rt.alloc(),
+        &report,
+        "exact 5\nbetween 2 5\nno admitted pair\ncause budget\nfrom 01\nto none\nnodes 9\neach y exact 5 edges 7\n\
+each exact between 2 5 edges none\n--first 0.\n",
+        "{\"proved\":true,\"exact\":5,\"between\":[2,5],\"no\":\"admitted pair\",\"cause\":\"budget\",\"from\":\"01\",\
+\"to\":\"none\",\"nodes\":9,\
+\"each\":[[\"y\",\"exact\",5,\"edges\",7],[\"exact\",\"between\",2,5,\"edges\",null]],\
+\"parts\":[[\"--first\",\"0.\"]]}\n",
+    )
+}
+
+#[test]
+fn prints_a_verdict(rt: HostRuntime) -> Result<(), Fail> {
+    let report = checked(rt.alloc())?;
+    prints(
+        &rt,
+        rt.alloc(),
+        &report,
+        "accepted 5\nfirst 0.\nsecond ..\nhold =.\nflips 1\nat 0 7\nat none\n\
+refused 7 OtherCircuit\nrefused 3 LeafBound line 12\n",
+        "{\"proved\":true,\"accepted\":5,\"first\":\"0.\",\"second\":\"..\",\"hold\":\"=.\",\"flips\":1,\"at\":[0,7],\"at\":null,\
+\"refused\":[7,\"OtherCircuit\"],\"refused\":[3,\"LeafBound\",\"line\",12]}\n",
+    )
+}
+
+#[test]
+fn prints_what_is_told(rt: HostRuntime) -> Result<(), Fail> {
+    let report = told(rt.alloc())?;
+    prints(
+        &rt,
+        rt.alloc(),
+        &report,
+        "accepted between 2 5\naccepted none\nunchecked 3\nunchecked none\ndefault 1 3\noutput all\n\
+output 4\nkeep 2 01 5 ==\n",
+        "{\"proved\":true,\"accepted\":null,\"accepted\":null,\"unchecked\":3,\"unchecked\":null,\
+\"default\":\"1 3\",\"output\":[\"all\"],\
+\"output\":[[4]],\
+\"keep\":\"2 01 5 ==\"}\n",
+    )
+}

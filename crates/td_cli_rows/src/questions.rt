@@ -1,0 +1,197 @@
+//! Questions about a small netlist.
+
+use std::alloc::Global;
+use std::process::Abort;
+use std::test::*;
+use td_domain::Trit;
+use td_gates::{Delay, Level};
+use td_inputs::{Given, Taken, Topic, WordFault};
+use td_question::vector::VectorWord;
+use td_question::{Asked, QuestionFault, cube_of, pair_of, question_of};
+use td_reading::Reading;
+use td_request::{Inputs, Question};
+
+const TEXT: &[u8] =
+    b"module t(a, b, y);\ninput [1:0] a;\ninput b;\noutput y;\nand #2 g(y,a[1],a[0],b);\nendmodule\n";
+
+fn nothing<'a>() -> Given<'a> {
+    Given {
+        first: None,
+        second: None,
+        hold: None,
+        at: None,
+    }
+}
+
+/// What is asked by words by place and by name, with at most one flip.
+fn asked<'a>(
+    rt: &impl Abort,
+    alloc: Global,
+    given: Given<'a>,
+    named: &'a [Taken<'a>],
+) -> Result<Asked, QuestionFault<'static, 'a>> {
+    let Some(default) = Delay::new(1, 1) else {
+        rt.abort();
+    };
+    let reading = Reading::whole(alloc, default);
+    let question = Question {
+        inputs: Inputs { given, named },
+        flips: Some(1),
+    };
+    question_of(alloc, TEXT, &reading, &question)
+}
+
+/// Pins, a held input and a moment by name are those of the circuit's own inputs.
+#[test]
+fn asks_by_name(rt: HostRuntime) -> Result<(), Fail> {
+    let named = [
+        Taken {
+            topic: Topic::Pin,
+            text: b"a=2",
+        },
+        Taken {
+            topic: Topic::HoldInput,
+            text: b"b",
+        },
+        Taken {
+            topic: Topic::At,
+            text: b"b=7",
+        },
+    ];
+    match asked(&rt, rt.alloc(), nothing(), &named) {
+        Ok(asked) => {
+            let pins = asked.admit.pins();
+            assert!(rt; pins.len() == 6);
+            assert!(rt; pins.trit(0) == Trit::One && pins.trit(1) == Trit::One);
+            assert!(rt; pins.trit(2) == Trit::Zero && pins.trit(3) == Trit::Zero);
+            assert!(rt; pins.trit(4) == Trit::Free && pins.trit(5) == Trit::Free);
+            assert!(rt; asked.admit.held() == [false, false, true].as_slice());
+            assert!(rt; asked.admit.flips() == 1);
+            assert!(rt; asked.circuit.moments() == [0u64, 0, 7].as_slice());
+        }
+        Err(_) => assert!(rt; false),
+    }
+    Ok(())
+}
+
+/// Words by place alone.
+#[test]
+fn asks_by_place(rt: HostRuntime) -> Result<(), Fail> {
+    let given = Given {
+        first: Some("0.1"),
+        second: None,
+        hold: Some("..="),
+        at: Some("3,0,1"),
+    };
+    match asked(&rt, rt.alloc(), given, &[]) {
+        Ok(asked) => {
+            let pins = asked.admit.pins();
+            assert!(rt; pins.len() == 6);
+            assert!(rt; pins.trit(0) == Trit::Zero && pins.trit(1) == Trit::Free);
+            assert!(rt; pins.trit(4) == Trit::One);
+            assert!(rt; asked.circuit.moments() == [3u64, 0, 1].as_slice());
+        }
+        Err(_) => assert!(rt; false),
+    }
+    Ok(())
+}
+
+/// A word of another length, a name of no input, and a value that is too wide.
+#[test]
+fn refuses(rt: HostRuntime) -> Result<(), Fail> {
+    let given = Given {
+        second: Some("0"),
+        ..nothing()
+    };
+    match asked(&rt, rt.alloc(), given, &[]) {
+        Err(QuestionFault::BadVector(VectorWord::Second)) => {}
+        _ => assert!(rt; false),
+    }
+    let named = [Taken {
+        topic: Topic::Pin,
+        text: b"c=1",
+    }];
+    match asked(&rt, rt.alloc(), nothing(), &named) {
+        Err(QuestionFault::BadName(WordFault::NoInput(name), _)) => assert!(rt;
+            name == b"c".as_slice()
+        ),
+        _ => assert!(rt; false),
+    }
+    let named = [Taken {
+        topic: Topic::Pin,
+        text: b"b=2",
+    }];
+    match asked(&rt, rt.alloc(), given, &named) {
+        Err(QuestionFault::BadName(WordFault::Bad(..), _)) => {}
+        _ => assert!(rt; false),
+    }
+    Ok(())
+}
+
+fn reading(rt: &impl Abort, alloc: Global) -> Reading<'static> {
+    let Some(default) = Delay::new(1, 1) else {
+        rt.abort();
+    };
+    Reading::whole(alloc, default)
+}
+
+/// The pins of a cube, by place and by name together.
+#[test]
+fn pins_a_cube(rt: HostRuntime) -> Result<(), Fail> {
+    let named = [Taken {
+        topic: Topic::Pin,
+        text: b"b=1",
+    }];
+    let given = Given {
+        first: Some("0.."),
+        ..nothing()
+    };
+    let inputs = Inputs {
+        given,
+        named: &named,
+    };
+    match cube_of(rt.alloc(), TEXT, &reading(&rt, rt.alloc()), &inputs) {
+        Ok(asked) => {
+            assert!(rt; asked.cube.len() == 6);
+            assert!(rt; asked.cube.trit(0) == Trit::Zero && asked.cube.trit(1) == Trit::Free);
+            assert!(rt; asked.cube.trit(4) == Trit::One && asked.cube.trit(5) == Trit::One);
+        }
+        Err(_) => assert!(rt; false),
+    }
+    Ok(())
+}
+
+/// The levels of a pair, and a word of another length.
+#[test]
+fn spells_a_pair(rt: HostRuntime) -> Result<(), Fail> {
+    let inputs = Inputs {
+        given: nothing(),
+        named: &[],
+    };
+    match pair_of(
+        rt.alloc(),
+        TEXT,
+        &reading(&rt, rt.alloc()),
+        &inputs,
+        "01x",
+        "111",
+    ) {
+        Ok(asked) => {
+            assert!(rt; asked.first.as_slice() == [Level::Zero, Level::One, Level::X].as_slice());
+            assert!(rt; asked.second.as_slice() == [Level::One, Level::One, Level::One].as_slice());
+        }
+        Err(_) => assert!(rt; false),
+    }
+    match pair_of(
+        rt.alloc(),
+        TEXT,
+        &reading(&rt, rt.alloc()),
+        &inputs,
+        "01x",
+        "11",
+    ) {
+        Err(QuestionFault::BadVector(VectorWord::To)) => {}
+        _ => assert!(rt; false),
+    }
+    Ok(())
+}
