@@ -17,4 +17,4 @@ pub use flaw::{Flaw, StepError};
 pub use kind::StepKind;
 pub use refutation::Refutation;
 pub use settled::{is_broken, is_kept};
-pub use whole::{Refusal, Step, refuted};
+pub use whole::{Refusal, Shown, Step, refuted, refuted_keeping};

@@ -1,1 +1,2 @@
 mod Worst
+mod PairCubes

@@ -1,1 +1,3 @@
 pub mod Answers
+pub mod PairCubes
+pub mod Kept

@@ -1,8 +1,10 @@
 //! The search for a refutation: by spans it finds the latest pair that it can, and lines that show
-//! that no pair is later than a bound.
+//! that no pair is later than a bound, or that no pair is asked about.
 #![tactic(auto)]
 
+mod asking;
 mod effort;
+mod keeping;
 mod names;
 mod pairs;
 mod refuting;
@@ -10,5 +12,6 @@ mod searching;
 mod spelling;
 
 pub use effort::Effort;
+pub use keeping::{Answered, Evidence, refute_keeping};
 pub use refuting::{Refuted, Sought, refute};
 pub use td_span_search::Ending;

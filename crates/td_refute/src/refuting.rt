@@ -21,7 +21,7 @@ use td_refutation::{Refusal, Step, refuted};
 use td_span_search::{Ending, PairBits};
 
 /// The most gates of a circuit that is searched.
-const MOST_GATES: usize = 60_000;
+pub const MOST_GATES: usize = 60_000;
 
 /// A bound of the delays of the admitted pairs, and the lines that show it.
 #[derive(Drop)]
@@ -88,21 +88,21 @@ pub fn refute<R: Threads + Sync>(
         pair,
         steps,
         ending,
-    } = search(rt, alloc, circuit, admit, best.time, effort)?;
+    } = search(rt, alloc, circuit, admit, &[], best.time, effort)?;
     keep_found(alloc, scratch, circuit, admit, &pair, best)?;
     let steps = steps?;
     let refuted = show(alloc, circuit, admit, best, steps)?;
     Ok(Sought { refuted, ending })
 }
 
-// Measures the pair that a search found, and keeps it where it is later. The error is out of
-// memory.
+// Measures the pair that a search found, if it did, and keeps it where it is later. The error is out
+// of memory.
 fn keep_found(
     alloc: Global,
     scratch: &mut Scratch,
     circuit: &Circuit,
     admit: &Admit,
-    found: &PairBits,
+    found: &Option<PairBits>,
     best: &mut Timed,
 ) -> Result<(), AllocError>
     requires scratch { IsFor circuit.now scratch.old }
@@ -112,6 +112,9 @@ fn keep_found(
     ensures no_less { best.old.time ≤ best.new.time }
     ensures scratch { IsFor circuit.now scratch.new }
 {
+    let Some(found) = found else {
+        return Ok(());
+    };
     // For the prover: this call says that there are few inputs.
     let _gates = circuit.gates();
     let pair = pair_with(alloc, admit, &best.pair, found)?;

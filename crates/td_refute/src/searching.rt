@@ -8,34 +8,39 @@ use std::alloc::{AllocError, Global};
 use std::thread::Threads;
 use td_circuit::Circuit;
 use td_domain::Admit;
-use td_refutation::Step;
-use td_span_search::{Admitted, Ending, FOREVER, Limits, Network, PairBits, Search, Team, Times};
-use td_spans::first_times;
+use td_gates::Level;
+use td_refutation::{NamedCondition, Step, question_on};
+use td_span_search::{
+    Admitted, Condition, Ending, FOREVER, Limits, Network, PairBits, Search, Team, Times,
+};
+use td_spans::{Form, first_times};
 
-/// What a search found: the latest pair, and lines that are to show the least bound, unless memory
-/// ran out; and why it ended.
+/// What a search found: the latest pair, if it knows one, and lines that are to show the least
+/// bound, or that no pair is asked about, unless memory ran out; and why it ended.
 #[derive(Drop)]
 pub struct Findings {
-    pub pair: PairBits,
+    pub pair: Option<PairBits>,
     pub steps: Result<Vec<Step>, AllocError>,
     pub ending: Ending,
 }
 
-/// Searches for admitted pairs that are later than a known one, by its delay. It begins with a pair
-/// of its own, whose levels its solver tries first: near a late pair later ones are rare. The error
-/// is out of memory before anything was found.
+/// Searches for admitted pairs that keep conditions and are later than a known one, by its delay. It
+/// begins with a pair of its own, whose levels its solver tries first: near a late pair later ones
+/// are rare. The error is out of memory before anything was found.
 pub fn search<R: Threads + Sync>(
     rt: &R,
     alloc: Global,
     circuit: &Circuit,
     admit: &Admit,
+    keep: &[NamedCondition],
     known: u64,
     effort: Effort<'_>,
 ) -> Result<Findings, AllocError>
     requires { length admit.now.held ≡ length circuit.now.netlist.inputs }
 {
     let network = Network::new(alloc, circuit)?;
-    let admitted = Admitted::new(alloc, &network, admit)?;
+    let mut admitted = Admitted::new(alloc, &network, admit)?;
+    admitted.conditions = conditions_in(alloc, circuit, admit, keep)?;
     let times = times_in(alloc, circuit, admit)?;
     let limits = Limits {
         known,
@@ -46,7 +51,7 @@ pub fn search<R: Threads + Sync>(
     let search = Search::new(alloc, &network, &admitted, &times, limits, effort.stop)?;
     let mut team = Team::new(search, effort.workers as usize)?;
     let ended = team.run(rt);
-    let pair = team.pair().copy(alloc)?;
+    let pair = copy_of(alloc, team.pair())?;
     let ending = team.ending().unwrap_or(Ending::Memory);
     let steps = match ended {
         Ok(()) => steps_in(alloc, circuit, team),
@@ -59,7 +64,45 @@ pub fn search<R: Threads + Sync>(
     })
 }
 
-// The lines of the least bound that is known.
+fn copy_of(alloc: Global, pair: Option<&PairBits>) -> Result<Option<PairBits>, AllocError> {
+    match pair {
+        Some(pair) => Ok(Some(pair.copy(alloc)?)),
+        None => Ok(None),
+    }
+}
+
+// The conditions on nets of the circuit.
+fn conditions_in(
+    alloc: Global,
+    circuit: &Circuit,
+    admit: &Admit,
+    keep: &[NamedCondition],
+) -> Result<Vec<Condition>, AllocError> {
+    let mut conditions = Vec::new(alloc);
+    for condition in question_on(alloc, circuit, admit, keep)?.keep() {
+        let (first, last, is_equal) = match condition.form {
+            Form::Levels(first, last) => (bit_of(first), bit_of(last), false),
+            Form::Equal => (None, None, true),
+        };
+        conditions.push(Condition {
+            net: condition.net,
+            first,
+            last,
+            is_equal,
+        })?;
+    }
+    Ok(conditions)
+}
+
+fn bit_of(level: Level) -> Option<bool> {
+    match level {
+        Level::Zero => Some(false),
+        Level::One => Some(true),
+        Level::X => None,
+    }
+}
+
+// The lines of the least bound that is known, or of the proof that no pair is asked about.
 fn steps_in(alloc: Global, circuit: &Circuit, team: Team<'_>) -> Result<Vec<Step>, AllocError> {
     let top = team.top();
     let refutation = team.into_refutation(top)?;

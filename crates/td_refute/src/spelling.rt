@@ -64,6 +64,7 @@ fn step_line(alloc: Global, names: &Names, step: &search::Step) -> Result<Step, 
         search::Step::Table(clause) => clause_line(alloc, StepKind::Table, clause),
         search::Step::Net(clause) => clause_line(alloc, StepKind::Net, clause),
         search::Step::Pairs(clause) => clause_line(alloc, StepKind::Pairs, clause),
+        search::Step::Keep(clause) => clause_line(alloc, StepKind::Keep, clause),
         search::Step::Lemma(clause, hints) => {
             let mut numbers = Vec::new(alloc);
             push_shown(clause, hints, &mut numbers)?;

@@ -36,7 +36,7 @@ struct Assumptions {
 impl<'a> Search<'a> {
     // The pair of the model: bits without a variable are those of the best pair, but that a still
     // input stays so, and where fewer inputs may differ than there are, these stand still.
-    fn pair_of_model(&self) -> Result<PairBits, AllocError> {
+    pub(crate) fn pair_of_model(&self) -> Result<PairBits, AllocError> {
         let mut pair = self.best.pair.copy(self.alloc)?;
         for input in 0..self.network.inputs() {
             let net = self.network.net_of_input(input);
@@ -66,8 +66,9 @@ impl<'a> Search<'a> {
         Ok(pair)
     }
 
-    // Only what lies in the cone of the net is decided. The error is out of memory.
-    fn look_at(&mut self, net: Net) -> Result<(), AllocError> {
+    /// Only what lies in the cones of the net and of the conditions is decided. The error is out of
+    /// memory.
+    pub(crate) fn look_at(&mut self, net: Net) -> Result<(), AllocError> {
         if self.cone_of == Some(net) {
             return Ok(());
         }
@@ -98,11 +99,16 @@ impl<'a> Search<'a> {
         Ok(())
     }
 
-    // By net whether it lies in the cone of one.
+    /// By net whether it lies in the cone of one, or of a condition's. The error is out of memory.
     pub(crate) fn cone(&self, net: Net) -> Result<Vec<bool>, AllocError> {
         let mut cone = vec![in self.alloc; false; self.network.nets()]?;
+        let mut last = net;
         write_at(&mut cone, net as usize, true);
-        for member in (self.network.first_gate()..net.saturating_add(1)).rev() {
+        for condition in &self.admitted.conditions {
+            write_at(&mut cone, condition.net as usize, true);
+            last = last.max(condition.net);
+        }
+        for member in (self.network.first_gate()..last.saturating_add(1)).rev() {
             if !read(&cone, member as usize, false) {
                 continue;
             }
@@ -233,6 +239,10 @@ impl<'a> Search<'a> {
     fn try_model(&mut self, asked: Asked, assumptions: &Assumptions) -> Result<bool, AllocError> {
         self.counts.models = self.counts.models.saturating_add(1);
         let pair = self.pair_of_model()?;
+        if !self.keeps(&pair) {
+            self.is_lost = true;
+            return Ok(false);
+        }
         if asked.last.is_none() {
             let delay = self.simulate(&pair)?;
             let known = match &self.candidate {

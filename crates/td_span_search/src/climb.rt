@@ -51,8 +51,8 @@ impl<'a> Search<'a> {
         Ok(delay)
     }
 
-    /// Tries pairs near one, with up to `bits` inputs moved; pairs that are as late are taken too.
-    /// Answers where it stands in the end. The error is out of memory.
+    /// Tries pairs near one, with up to `bits` inputs moved; pairs that are as late are taken too,
+    /// and none that breaks a condition. Answers where it stands in the end. The error is out of memory.
     pub(crate) fn climb(
         &mut self,
         tries: u64,
@@ -72,31 +72,35 @@ impl<'a> Search<'a> {
                 let step = self.draw_move(inputs, 1);
                 self.admitted.step(&mut pair, step);
             }
-            let delay = self.simulate(&pair)?;
-            idle = if delay > here.delay {
-                0
-            } else {
-                idle.saturating_add(1)
-            };
-            if delay >= here.delay {
-                here = Found { delay, pair };
+            idle = idle.saturating_add(1);
+            if self.keeps(&pair) {
+                let delay = self.simulate(&pair)?;
+                if delay > here.delay {
+                    idle = 0;
+                }
+                if delay >= here.delay {
+                    here = Found { delay, pair };
+                }
             }
             if idle > patience {
                 idle = 0;
-                here = self.elsewhere(here.pair)?;
+                here = self.elsewhere(here)?;
             }
         }
         Ok(here)
     }
 
-    // A pair with moves at all inputs.
-    fn elsewhere(&mut self, pair: PairBits) -> Result<Found, AllocError> {
+    // A pair with moves at all inputs; where it isn't asked about, the same one again.
+    fn elsewhere(&mut self, here: Found) -> Result<Found, AllocError> {
         let inputs = self.network.inputs();
-        let mut pair = pair;
+        let mut pair = here.pair.copy(self.alloc)?;
         for input in 0..inputs {
             let mut step = self.draw_move(inputs, 0);
             step.input = input;
             self.admitted.step(&mut pair, step);
+        }
+        if !self.keeps(&pair) {
+            return Ok(here);
         }
         let delay = self.simulate(&pair)?;
         Ok(Found { delay, pair })

@@ -1,5 +1,5 @@
-//! The search by spans: it finds the latest change of a circuit's outputs over admitted pairs, and
-//! steps that show that none is later.
+//! The search by spans: it finds the latest change of a circuit's outputs over the pairs that are
+//! asked about, and steps that show that none is later, or that there is no pair.
 //!
 //! ```text
 //! schedule ──question──▶ solver ──model──▶ pair ──▶ waves ──not later──▶ explanation ──clauses──▶ solver
@@ -21,6 +21,7 @@
 
 mod asking;
 mod climb;
+mod conditions;
 mod counter;
 mod cubes;
 mod explanation;
@@ -50,11 +51,12 @@ mod vocabulary;
 mod waves;
 mod worker;
 
+pub use conditions::Condition;
 pub use limits::Limits;
 pub use network::Network;
 pub use pairs::{Admitted, PairBits};
 pub use reach::Times;
-pub use record::{Axiom, Holds, Link, Note};
+pub use record::{Axiom, Holds, Kept, Link, Note};
 pub use refutation::{Refutation, Step};
 pub use search::{Ending, Meaning, Search};
 pub use span::{FOREVER, Span};

@@ -1,5 +1,6 @@
-//! Admitted pairs, as the search makes them.
+//! Pairs that are asked about, as the search makes them.
 
+use crate::conditions::Condition;
 use crate::network::Network;
 use std::alloc::{AllocError, Global};
 use td_cdcl::{read, write_at};
@@ -22,14 +23,15 @@ pub struct Move {
     pub other: usize,
 }
 
-/// Which pairs are admitted: by input the pins and whether it is held, and at how many inputs the
-/// bits may differ.
+/// Which pairs are asked about: those that are admitted, by input the pins and whether it is held,
+/// and at how many inputs the bits may differ; and that keep all conditions.
 #[derive(Drop)]
 pub struct Admitted {
     pub first: Vec<Option<bool>>,
     pub second: Vec<Option<bool>>,
     pub held: Vec<bool>,
     pub flips: usize,
+    pub conditions: Vec<Condition>,
     // At how many inputs the pins differ.
     differing: usize,
 }
@@ -80,7 +82,7 @@ impl PairBits {
 }
 
 impl Admitted {
-    /// The same pairs, bit by bit. The error is out of memory.
+    /// The same pairs, bit by bit, without a condition. The error is out of memory.
     pub fn new(alloc: Global, network: &Network, admit: &Admit) -> Result<Admitted, AllocError> {
         let mut first = Vec::new(alloc);
         let mut second = Vec::new(alloc);
@@ -100,8 +102,19 @@ impl Admitted {
             second,
             held,
             flips: admit.flips() as usize,
+            conditions: Vec::new(alloc),
             differing,
         })
+    }
+
+    /// Whether a pair is admitted: no held input has pins that differ, and not too many inputs do.
+    pub fn is_some(&self) -> bool {
+        for input in 0..self.held.len() {
+            if self.is_held(input) && self.differs(input) {
+                return false;
+            }
+        }
+        self.differing <= self.flips
     }
 
     /// The pinned bits of an input.

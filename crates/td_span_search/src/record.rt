@@ -24,16 +24,26 @@ pub struct Link {
     pub holds: Vec<Holds>,
 }
 
+/// What a clause of a condition says: that a net's first level is this, or its last level that;
+/// where one is none, the other.
+#[derive(Clone, Copy, Debug, PartialEq, Eq, Drop)]
+pub struct Kept {
+    pub net: Net,
+    pub first: Option<bool>,
+    pub last: Option<bool>,
+}
+
 /// Why a clause that was given is true of each run: by the scheduling rule of the gate that drives
 /// a net, with what holds of its inputs; by the table of a gate, of first or of last levels; since
-/// a net has one level at a place; by the pins, held inputs and flips; or since another worker has
-/// shown it, by its number in the log of all.
+/// a net has one level at a place; by the pins, held inputs and flips; by a condition; or since
+/// another worker has shown it, by its number in the log of all.
 #[derive(Clone, Drop)]
 pub enum Axiom {
     Gate(Net, Vec<Holds>),
     Table(Net, bool),
     Net,
     Admitted,
+    Kept(Kept),
     Told(ClauseNumber),
 }
 

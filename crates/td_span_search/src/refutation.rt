@@ -16,6 +16,8 @@ pub enum Step {
     Net(Vec<Literal>),
     /// Pins, held inputs and flips.
     Pairs(Vec<Literal>),
+    /// A condition.
+    Keep(Vec<Literal>),
     /// Unit propagation shows the clause.
     Lemma(Vec<Literal>, Vec<ClauseNumber>),
     /// An end of a net is this place, by a clause that the hints show.
@@ -35,6 +37,6 @@ pub enum Step {
 pub struct Refutation {
     pub variables: Vec<Meaning>,
     pub steps: Vec<Step>,
-    /// Whether the last step is a clause without literals: then no pair is admitted.
+    /// Whether the last step is a clause without literals: then no pair is asked about.
     pub is_empty: bool,
 }

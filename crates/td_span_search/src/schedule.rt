@@ -87,9 +87,9 @@ impl Schedule {
 }
 
 impl<'a> Search<'a> {
-    /// Searches until the best delay that is known is the latest moment that is possible, or the
-    /// work is done, or the stop is set. What was found stands in the search, also after an error,
-    /// which is out of memory.
+    /// Searches until the best delay that is known is the latest moment that is possible, or no pair
+    /// is asked about, or the work is done, or the stop is set. What was found stands in the search,
+    /// also after an error, which is out of memory.
     pub fn run(&mut self) -> Result<(), AllocError> {
         let mut schedule = Schedule::new(self.alloc, self.limits);
         self.run_by(&mut schedule)
@@ -97,6 +97,10 @@ impl<'a> Search<'a> {
 
     /// Likewise by a schedule, until it pauses. The error is out of memory.
     pub(crate) fn run_by(&mut self, schedule: &mut Schedule) -> Result<(), AllocError> {
+        self.find_pair()?;
+        if !self.is_ready {
+            return Ok(());
+        }
         let pair = self.best.pair.copy(self.alloc)?;
         let delay = self.simulate(&pair)?;
         let gates = self.network.nodes().len().max(1) as u64;

@@ -1,5 +1,6 @@
 //! A search under way.
 
+use crate::conditions::Rests;
 use crate::limits::Limits;
 use crate::network::{Net, Network};
 use crate::pairs::{Admitted, PairBits};
@@ -102,12 +103,13 @@ pub struct Counts {
     pub simulated: u64,
 }
 
-/// Why a search ends: the best delay that is known is the latest moment that is possible; its work
-/// is done; its stop is set; it takes as much memory as it may; or a run has too many changes, or a
-/// gate too many inputs, to be followed.
+/// Why a search ends: the best delay that is known is the latest moment that is possible; no pair
+/// is asked about; its work is done; its stop is set; it takes as much memory as it may; or a run
+/// has too many changes, or a gate too many inputs, to be followed.
 #[derive(Clone, Copy, Debug, PartialEq, Eq, Drop)]
 pub enum Ending {
     Closed,
+    NoPair,
     Work,
     Stop,
     Memory,
@@ -132,6 +134,9 @@ pub struct Search<'a> {
     pub(crate) reach: Reach,
     pub(crate) waves: Waves,
     pub(crate) record: Record,
+    pub(crate) rests: Rests,
+    // Whether the best pair is one of those asked about: else none is known.
+    pub(crate) is_ready: bool,
     pub(crate) best: Found,
     // The best of the models of a question that isn't answered yet.
     pub(crate) candidate: Option<Found>,
@@ -186,6 +191,8 @@ impl<'a> Search<'a> {
             reach: Reach::new(alloc, network, times)?,
             waves: Waves::new(alloc),
             record: Record::new(alloc),
+            rests: Rests::new(alloc),
+            is_ready: admitted.conditions.is_empty() && admitted.is_some(),
             best: Found {
                 delay: 0,
                 pair: admitted.some_pair(alloc)?,
@@ -225,9 +232,13 @@ impl<'a> Search<'a> {
         self.best.delay.max(self.limits.known)
     }
 
-    /// The best pair that was found.
-    pub fn pair(&self) -> &PairBits {
-        &self.best.pair
+    /// The best pair that was found, if one was.
+    pub fn pair(&self) -> Option<&PairBits> {
+        if self.is_ready {
+            Some(&self.best.pair)
+        } else {
+            None
+        }
     }
 
     /// The latest moment at which an output may change, by what is known now.
@@ -286,7 +297,7 @@ impl<'a> Search<'a> {
     }
 
     // Why the search is to end, but for what was found.
-    fn ends(&self) -> Option<Ending> {
+    pub(crate) fn ends(&self) -> Option<Ending> {
         if self.is_lost {
             Some(Ending::Lost)
         } else if self.stop.is_set() {
@@ -302,7 +313,10 @@ impl<'a> Search<'a> {
 
     /// Why the search ends, if it is to end.
     pub fn ending(&self) -> Option<Ending> {
-        if self.best_known() >= self.top() {
+        if self.has_no_pair() {
+            return Some(Ending::NoPair);
+        }
+        if self.is_ready && self.best_known() >= self.top() {
             return Some(Ending::Closed);
         }
         self.ends()
@@ -357,8 +371,8 @@ impl<'a> Search<'a> {
         self.settled.set(net, is_last, literal);
     }
 
-    /// Steps that show that no output changes after the bound, which is `top` at least. The error
-    /// is out of memory.
+    /// Steps that show that no output changes after the bound, which is `top` at least, or that no
+    /// pair is asked about, where that is known. The error is out of memory.
     pub fn refutation(&self, bound: u64) -> Result<Refutation, AllocError> {
         self.source().refutation(bound)
     }

@@ -2,7 +2,7 @@
 
 use crate::levels::at_level;
 use crate::network::{Net, Node};
-use crate::record::{Axiom, Holds, Note};
+use crate::record::{Axiom, Holds, Kept, Note};
 use crate::refutation::{Refutation, Step};
 use crate::search::Meaning;
 use crate::source::Source;
@@ -294,6 +294,7 @@ impl<'b> Source<'b> {
             Some(Note::Given(_, Axiom::Table(net, is_last))) => {
                 self.spell_table(literals, *net, *is_last, spelling)
             }
+            Some(Note::Given(_, Axiom::Kept(kept))) => self.spell_kept(literals, *kept, spelling),
             Some(Note::Given(_, Axiom::Net)) => {
                 let clause = Vec::from_slice(self.alloc, literals)?;
                 spelling.add(Step::Net(clause))
@@ -411,6 +412,27 @@ impl<'b> Source<'b> {
             }
         }
         let name = spelling.add(Step::Table(clause))?;
+        self.join(name, used, literals, spelling)
+    }
+
+    // A clause of a condition, likewise: the step names the condition's net.
+    fn spell_kept(
+        &self,
+        literals: &[Literal],
+        kept: Kept,
+        spelling: &mut Spelling,
+    ) -> Result<ClauseNumber, AllocError> {
+        let mut used = Vec::new(self.alloc);
+        let mut clause = Vec::new(self.alloc);
+        if let Some(level) = kept.first {
+            let denied = self.spell_level(kept.net, false, !level, spelling, &mut used)?;
+            clause.push(opposite(denied))?;
+        }
+        if let Some(level) = kept.last {
+            let denied = self.spell_level(kept.net, true, !level, spelling, &mut used)?;
+            clause.push(opposite(denied))?;
+        }
+        let name = spelling.add(Step::Keep(clause))?;
         self.join(name, used, literals, spelling)
     }
 
@@ -567,6 +589,7 @@ fn literals_of(step: &Step) -> &[Literal] {
         | Step::Table(clause)
         | Step::Net(clause)
         | Step::Pairs(clause)
+        | Step::Keep(clause)
         | Step::Lemma(clause, _)
         | Step::End { clause, .. } => clause,
         Step::Again(_) => &[],
@@ -579,6 +602,7 @@ fn renumber(step: &mut Step, numbers: &[u32]) {
         | Step::Table(clause)
         | Step::Net(clause)
         | Step::Pairs(clause)
+        | Step::Keep(clause)
         | Step::Lemma(clause, _)
         | Step::End { clause, .. } => renumber_all(clause, numbers),
         Step::Again(_) => {}

@@ -151,9 +151,12 @@ impl<'a> Team<'a> {
         self.best.delay
     }
 
-    /// The best pair that was found.
-    pub fn pair(&self) -> &PairBits {
-        &self.best.pair
+    /// The best pair that was found, if one was.
+    pub fn pair(&self) -> Option<&PairBits> {
+        match self.workers.first() {
+            Some(first) if first.search.is_ready => Some(&self.best.pair),
+            _ => None,
+        }
     }
 
     /// The best delay that is known, by a pair that was found or before.
@@ -187,7 +190,11 @@ impl<'a> Team<'a> {
 
     /// Why the search ends, if it is to end.
     pub fn ending(&self) -> Option<Ending> {
-        if self.best_known() >= self.top() {
+        let first = self.workers.first()?;
+        if first.search.has_no_pair() {
+            return Some(Ending::NoPair);
+        }
+        if first.search.is_ready && self.best_known() >= self.top() {
             return Some(Ending::Closed);
         }
         if self.spent() >= self.limits.work {
@@ -205,8 +212,9 @@ impl<'a> Team<'a> {
         None
     }
 
-    /// Steps that show that no output changes after the bound, which is `top` at least. All else is
-    /// let go before they are spelled. The error is out of memory.
+    /// Steps that show that no output changes after the bound, which is `top` at least, or that no
+    /// pair is asked about, where that is known. All else is let go before they are spelled. The
+    /// error is out of memory.
     pub fn into_refutation(self, bound: u64) -> Result<Refutation, AllocError> {
         let Team {
             alloc,

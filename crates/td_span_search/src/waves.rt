@@ -97,9 +97,9 @@ pub fn target_of(node: Node, count: usize) -> bool {
     plain != node.inverts
 }
 
-// The level that counts.
+/// The level that counts.
 #[inline(always)]
-fn counted_level(node: Node) -> bool {
+pub fn counted_level(node: Node) -> bool {
     node.control().unwrap_or(true)
 }
 
