@@ -5,6 +5,8 @@
 #[cfg(test)]
 mod circuits;
 #[cfg(test)]
+mod keeping;
+#[cfg(test)]
 mod queue;
 #[cfg(test)]
 mod settled;

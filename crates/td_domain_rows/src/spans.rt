@@ -43,7 +43,7 @@ fn times_of(signal: &Signal) -> Times {
 }
 
 /// When the nets of a circuit may change where nothing is pinned.
-fn all_times(alloc: Global, circuit: &Circuit) -> Result<Vec<Times>, AllocError> {
+pub fn all_times(alloc: Global, circuit: &Circuit) -> Result<Vec<Times>, AllocError> {
     let _few = circuit.gates();
     let cube = Cube::free(alloc, circuit.input_count())?;
     let mut times = Vec::new(alloc);
@@ -54,7 +54,7 @@ fn all_times(alloc: Global, circuit: &Circuit) -> Result<Vec<Times>, AllocError>
 }
 
 /// Limits of this work, with a short climb.
-fn limits_of(work: u64) -> Limits {
+pub fn limits_of(work: u64) -> Limits {
     Limits {
         climb: 200,
         near: 5,
