@@ -120,6 +120,8 @@ vector_line key vector = key ++ bits vector ++ newline
 abbrev pub found_text : Found → List ℕ
 found_text (found.Exact time) = codes "exact " ++ decimal time
 found_text (found.Between low high) = codes "between " ++ decimal low ++ codes " " ++ decimal high
+found_text (found.AtMost high) = codes "between none " ++ decimal high
+found_text found.NoPair = codes "none"
 
 abbrev pub edges_text : Option ℕ → List ℕ
 edges_text bound = codes " edges " ++ bound_text bound ++ newline
@@ -186,7 +188,8 @@ line_text (line.Changes rows) = flat_map change_line rows.items
 line_text (line.Bound by moment) = bound_line by moment
 line_text (line.Exact time) = number_line (codes "exact ") time
 line_text (line.Between low high) = between_line low high
-line_text line.NoPair = codes "no admitted pair" ++ newline
+line_text (line.AtMost high) = number_line (codes "between none ") high
+line_text line.NoPair = codes "none" ++ newline
 line_text (line.Cause why) = cause_line why
 line_text (line.From vector) = vector_line (codes "from ") vector
 line_text (line.To vector) = vector_line (codes "to ") vector

@@ -56,6 +56,10 @@ moment_of (Some moment) = number (decimal moment)
 abbrev pub numbers_of : ℕ → ℕ → Json
 numbers_of low high = array (item (number (decimal low)) (item (number (decimal high)) no_items))
 
+-- no lower figure, and an upper one
+abbrev pub none_to : ℕ → Json
+none_to high = array (item null (item (number (decimal high)) no_items))
+
 abbrev pub span_value : Option Span → Json
 span_value None = null
 span_value (Some span) = numbers_of span.least span.greatest
@@ -82,6 +86,8 @@ abbrev pub found_value : Found → Option ℕ → Items
 found_value (found.Exact time) bound = item (string (codes "exact")) (item (number (decimal time)) (edges_value bound))
 found_value (found.Between low high) bound =
     item (string (codes "between")) (item (number (decimal low)) (item (number (decimal high)) (edges_value bound)))
+found_value (found.AtMost high) bound = item (string (codes "between")) (item null (item (number (decimal high)) (edges_value bound)))
+found_value found.NoPair bound = item (string (codes "none")) (edges_value bound)
 
 abbrev pub row_value : Row → Json
 row_value row = array (item (string row.output) (found_value row.found row.edges))
@@ -128,7 +134,8 @@ key_of (line.Changes rows) = codes "change"
 key_of (line.Bound by moment) = figure_key by
 key_of (line.Exact time) = codes "exact"
 key_of (line.Between low high) = codes "between"
-key_of line.NoPair = codes "no"
+key_of (line.AtMost high) = codes "between"
+key_of line.NoPair = codes "none"
 key_of (line.Cause why) = codes "cause"
 key_of (line.From vector) = codes "from"
 key_of (line.To vector) = codes "to"
@@ -168,7 +175,8 @@ value_of (line.Changes rows) = array (items_by change_value rows.items)
 value_of (line.Bound by moment) = moment_of moment
 value_of (line.Exact time) = number (decimal time)
 value_of (line.Between low high) = numbers_of low high
-value_of line.NoPair = string (codes "admitted pair")
+value_of (line.AtMost high) = none_to high
+value_of line.NoPair = boolean true
 value_of (line.Cause why) = string (cause_text why)
 value_of (line.From vector) = string (bits vector)
 value_of (line.To vector) = string (bits vector)
@@ -176,10 +184,10 @@ value_of (line.Nodes count) = number (decimal count)
 value_of (line.Each rows) = array (items_by row_value rows.items)
 value_of (line.Parts parts) = array (items_by part_value parts.items)
 value_of (line.Accepted time) = number (decimal time)
-value_of (line.AcceptedBetween time high) = null
-value_of line.AcceptedNone = null
+value_of (line.AcceptedBetween time high) = numbers_of time high
+value_of line.AcceptedNone = string (codes "none")
 value_of (line.Unchecked time) = number (decimal time)
-value_of line.UncheckedNone = null
+value_of line.UncheckedNone = string (codes "none")
 value_of (line.Default rise fall) = string (delays_text rise fall)
 value_of (line.OutputNumbers numbers) = output_value numbers
 value_of (line.First pins) = string pins

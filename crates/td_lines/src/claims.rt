@@ -1,11 +1,11 @@
-//! Members that tell what a certificate is about.
+//! Members that tell what a certificate is about, or why it is refused.
 
-ghost use Rattle.std.specs.Prelude.{◌≡◌, codes, decimal, string_bytes, Some, IfOk, OnOk};
+ghost use Rattle.std.specs.Prelude.{◌≡◌, codes, decimal, string_bytes, None, Some, IfOk, OnOk};
 ghost use Rattle.json.specs.Json.{string};
 ghost use Rattle.json.specs.Tree.{json_tokens};
-ghost use Rattle.td_lines.specs.Values.{Adds, member_tokens, delays_text, output_value};
+ghost use Rattle.td_lines.specs.Values.{Adds, member_tokens, delays_text, numbers_of, output_value, refused_value};
 
-use crate::members::{moments_value, output, word};
+use crate::members::{moments_value, numbers, output, word};
 use crate::moments::Moments;
 use json::Writer;
 use std::alloc::{AllocError, Global};
@@ -57,4 +57,54 @@ pub(crate) fn output_numbers(
         None => output(writer, "all"),
         Some(numbers) => numbered(writer, numbers),
     }
+}
+
+fn without_line(writer: &mut Writer, number: u8, name: &str) -> Result<(), AllocError>
+    ensures { OnOk result (Adds writer.old writer.new (json_tokens (refused_value number name.now None))) }
+{
+    writer.begin_array()?;
+    writer.u64(u64::from(number))?;
+    writer.string(name)?;
+    writer.end_array()
+}
+
+fn with_line(writer: &mut Writer, number: u8, name: &str, line: u32) -> Result<(), AllocError>
+    ensures { OnOk result (Adds writer.old writer.new (json_tokens (refused_value number name.now (Some line)))) }
+{
+    writer.begin_array()?;
+    writer.u64(u64::from(number))?;
+    writer.string(name)?;
+    writer.string("line")?;
+    writer.u64(u64::from(line))?;
+    writer.end_array()
+}
+
+fn verdict(writer: &mut Writer, number: u8, name: &str, line: Option<u32>) -> Result<(), AllocError>
+    ensures { OnOk result (Adds writer.old writer.new (json_tokens (refused_value number name.now line))) }
+{
+    match line {
+        None => without_line(writer, number, name),
+        Some(line) => with_line(writer, number, name, line),
+    }
+}
+
+/// The verdict that refuses a certificate.
+pub(crate) fn refused(
+    writer: &mut Writer,
+    number: u8,
+    name: &str,
+    line: Option<u32>,
+) -> Result<(), AllocError>
+    ensures { OnOk result (Adds writer.old writer.new (member_tokens (codes "refused") (refused_value number name.now line))) }
+{
+    writer.key("refused")?;
+    verdict(writer, number, name, line)
+}
+
+/// The time and the other moment of a certificate that is accepted.
+pub(crate) fn accepted_between(writer: &mut Writer, time: u64, high: u64) -> Result<(), AllocError>
+    ensures { OnOk result (Adds writer.old writer.new (member_tokens (codes "accepted") (numbers_of time high))) }
+{
+    writer.key("accepted")?;
+    numbers(writer, time, high)
 }

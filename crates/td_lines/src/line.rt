@@ -68,11 +68,14 @@ pub struct Part {
     pub words: Vec<Label>,
 }
 
-/// What is found of a worst delay: the delay, or two moments between which it lies.
+/// What is found of a worst delay: the delay, or two moments between which it lies; where no pair is
+/// known, a moment that it doesn't pass, or that there is no pair.
 #[derive(Clone, Copy, Debug, Drop)]
 pub enum Found {
     Exact(u64),
     Between { low: u64, high: u64 },
+    AtMost(u64),
+    NoPair,
 }
 
 /// What is found of an output alone: its worst delay, and its bound by edges.
@@ -123,6 +126,8 @@ pub enum Line {
         low: u64,
         high: u64,
     },
+    /// The worst delay isn't above this, if there is a pair: none is known.
+    AtMost(u64),
     /// No pair is admitted.
     NoPair,
     /// Why it isn't exact.

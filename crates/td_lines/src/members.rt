@@ -1,12 +1,12 @@
 //! Reports as JSON: an object with a member for each line.
 
 ghost use Rattle.std.specs.Prelude.{◌≡◌, ◌∷◌, [], map, codes, decimal, string_bytes, Some, None, IfOk, OnOk};
-ghost use Rattle.json.specs.Json.{number, string, array, Json};
+ghost use Rattle.json.specs.Json.{boolean, number, string, array, Json};
 ghost use Rattle.json.specs.Tree.{json_tokens, items_tokens, members_tokens};
 ghost use Rattle.td_nets.specs.Scales.{scale_text};
 ghost use Rattle.td_lines.specs.declared.line.Found.TheVariants as FoundAs;
 ghost use Rattle.td_lines.specs.Texts.{bit, bits, level_text, kind_text};
-ghost use Rattle.td_lines.specs.Values.{Adds, items_by, rows_tokens, count_value, unit_text, cause_text, moment_of, numbers_of, span_value, place_value, last_value, driven_value, change_value, edges_value, found_value, row_value, part_value, member_tokens, line_tokens, members_of, report_json, named, at_value, refused_value};
+ghost use Rattle.td_lines.specs.Values.{Adds, items_by, rows_tokens, count_value, unit_text, cause_text, moment_of, numbers_of, span_value, place_value, last_value, driven_value, change_value, edges_value, found_value, row_value, part_value, member_tokens, line_tokens, members_of, report_json, named, at_value, none_to};
 
 use crate::claims;
 use crate::label::Label;
@@ -113,7 +113,8 @@ fn member(alloc: Global, writer: &mut Writer, line: &Line) -> Result<(), AllocEr
         Line::Bound(figure, moment) => bound(writer, figure.key(), *moment),
         Line::Exact(time) => count_of(writer, "exact", *time),
         Line::Between { low, high } => between(writer, *low, *high),
-        Line::NoPair => word(writer, "no", "admitted pair"),
+        Line::AtMost(high) => at_most(writer, *high),
+        Line::NoPair => none(writer),
         Line::Cause(why) => cause(writer, *why),
         Line::From(bits) => vector(alloc, writer, "from", bits),
         Line::To(bits) => vector(alloc, writer, "to", bits),
@@ -121,10 +122,10 @@ fn member(alloc: Global, writer: &mut Writer, line: &Line) -> Result<(), AllocEr
         Line::Each(rows) => lists(writer, "each", rows),
         Line::Parts(rows) => lists(writer, "parts", rows),
         Line::Accepted(time) => count_of(writer, "accepted", *time),
-        Line::AcceptedBetween { .. } => bound(writer, "accepted", None),
-        Line::AcceptedNone => bound(writer, "accepted", None),
+        Line::AcceptedBetween { time, high } => claims::accepted_between(writer, *time, *high),
+        Line::AcceptedNone => word(writer, "accepted", "none"),
         Line::Unchecked(time) => count_of(writer, "unchecked", *time),
-        Line::UncheckedNone => bound(writer, "unchecked", None),
+        Line::UncheckedNone => word(writer, "unchecked", "none"),
         Line::Default { rise, fall } => claims::default(alloc, writer, *rise, *fall),
         Line::OutputNumbers(numbers) => claims::output_numbers(writer, numbers),
         Line::First(pins) => word(writer, "first", pins.text()),
@@ -133,7 +134,7 @@ fn member(alloc: Global, writer: &mut Writer, line: &Line) -> Result<(), AllocEr
         Line::Flips(count) => count_of(writer, "flips", *count),
         Line::At(moments) => at(writer, moments),
         Line::Keep(conditions) => word(writer, "keep", conditions.text()),
-        Line::Refused { number, name, line } => refused(writer, *number, name, *line),
+        Line::Refused { number, name, line } => claims::refused(writer, *number, name, *line),
     }
 }
 
@@ -167,7 +168,7 @@ fn bound(writer: &mut Writer, key: &str, bound: Option<u64>) -> Result<(), Alloc
     moment(writer, bound)
 }
 
-fn numbers(writer: &mut Writer, low: u64, high: u64) -> Result<(), AllocError>
+pub(crate) fn numbers(writer: &mut Writer, low: u64, high: u64) -> Result<(), AllocError>
     ensures { OnOk result (Adds writer.old writer.new (json_tokens (numbers_of low high))) }
 {
     writer.begin_array()?;
@@ -181,6 +182,23 @@ fn between(writer: &mut Writer, low: u64, high: u64) -> Result<(), AllocError>
 {
     writer.key("between")?;
     numbers(writer, low, high)
+}
+
+fn at_most(writer: &mut Writer, high: u64) -> Result<(), AllocError>
+    ensures { OnOk result (Adds writer.old writer.new (member_tokens (codes "between") (none_to high))) }
+{
+    writer.key("between")?;
+    writer.begin_array()?;
+    writer.null()?;
+    writer.u64(high)?;
+    writer.end_array()
+}
+
+fn none(writer: &mut Writer) -> Result<(), AllocError>
+    ensures { OnOk result (Adds writer.old writer.new (member_tokens (codes "none") (boolean true))) }
+{
+    writer.key("none")?;
+    writer.boolean(true)
 }
 
 /// The least and the greatest delay, or null.
@@ -424,6 +442,22 @@ fn within(writer: &mut Writer, low: u64, high: u64, bound: Option<u64>) -> Resul
     edges(writer, bound)
 }
 
+fn below(writer: &mut Writer, high: u64, bound: Option<u64>) -> Result<(), AllocError>
+    ensures { OnOk result (Adds writer.old writer.new (items_tokens (found_value (FoundAs.AtMost high) bound))) }
+{
+    writer.string("between")?;
+    writer.null()?;
+    writer.u64(high)?;
+    edges(writer, bound)
+}
+
+fn without_pair(writer: &mut Writer, bound: Option<u64>) -> Result<(), AllocError>
+    ensures { OnOk result (Adds writer.old writer.new (items_tokens (found_value FoundAs.NoPair bound))) }
+{
+    writer.string("none")?;
+    edges(writer, bound)
+}
+
 /// What is found of an output, and the end of the array.
 fn found(writer: &mut Writer, found: Found, bound: Option<u64>) -> Result<(), AllocError>
     ensures { OnOk result (Adds writer.old writer.new (items_tokens (found_value found bound))) }
@@ -431,6 +465,8 @@ fn found(writer: &mut Writer, found: Found, bound: Option<u64>) -> Result<(), Al
     match found {
         Found::Exact(time) => exact(writer, time, bound),
         Found::Between { low, high } => within(writer, low, high, bound),
+        Found::AtMost(high) => below(writer, high, bound),
+        Found::NoPair => without_pair(writer, bound),
     }
 }
 
@@ -459,40 +495,4 @@ fn at(writer: &mut Writer, moments: &Moments) -> Result<(), AllocError>
 {
     writer.key("at")?;
     moments_value(writer, moments.all())
-}
-
-fn numbered(writer: &mut Writer, number: u8, name: &str) -> Result<(), AllocError>
-    ensures { OnOk result (Adds writer.old writer.new (json_tokens (refused_value number name.now None))) }
-{
-    writer.begin_array()?;
-    writer.u64(u64::from(number))?;
-    writer.string(name)?;
-    writer.end_array()
-}
-
-fn placed(writer: &mut Writer, number: u8, name: &str, line: u32) -> Result<(), AllocError>
-    ensures { OnOk result (Adds writer.old writer.new (json_tokens (refused_value number name.now (Some line)))) }
-{
-    writer.begin_array()?;
-    writer.u64(u64::from(number))?;
-    writer.string(name)?;
-    writer.string("line")?;
-    writer.u64(u64::from(line))?;
-    writer.end_array()
-}
-
-fn verdict(writer: &mut Writer, number: u8, name: &str, line: Option<u32>) -> Result<(), AllocError>
-    ensures { OnOk result (Adds writer.old writer.new (json_tokens (refused_value number name.now line))) }
-{
-    match line {
-        None => numbered(writer, number, name),
-        Some(line) => placed(writer, number, name, line),
-    }
-}
-
-fn refused(writer: &mut Writer, number: u8, name: &str, line: Option<u32>) -> Result<(), AllocError>
-    ensures { OnOk result (Adds writer.old writer.new (member_tokens (codes "refused") (refused_value number name.now line))) }
-{
-    writer.key("refused")?;
-    verdict(writer, number, name, line)
 }

@@ -63,7 +63,8 @@ impl Printed for Line {
             Line::Bound(figure, moment) => bound(out, *figure, *moment),
             Line::Exact(time) => number(out, b"exact ", *time),
             Line::Between { low, high } => between(out, *low, *high),
-            Line::NoPair => out.push(b"no admitted pair\n"),
+            Line::AtMost(high) => number(out, b"between none ", *high),
+            Line::NoPair => out.push(b"none\n"),
             Line::Cause(why) => cause(out, *why),
             Line::From(bits) => vector(out, b"from ", bits),
             Line::To(bits) => vector(out, b"to ", bits),
@@ -319,6 +320,8 @@ fn found(out: &mut Text, found: Found) -> Result<(), AllocError>
     match found {
         Found::Exact(time) => out.number_behind(b"exact ", time),
         Found::Between { low, high } => found_between(out, low, high),
+        Found::AtMost(high) => out.number_behind(b"between none ", high),
+        Found::NoPair => out.push(b"none"),
     }
 }
 

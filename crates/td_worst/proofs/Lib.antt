@@ -1,5 +1,6 @@
 pub mod Outcomes
 mod Leaves
+mod KeptLeaves
 mod EdgeLeaves
 mod Edged
 mod Standings

@@ -12,11 +12,14 @@ use Rattle.td_refute.specs.declared.refuting.Refuted as found
 abbrev pub leaf_of : found.Refuted → steps.Refuted
 leaf_of refuted = record { steps = map step_of refuted.steps.items; bound = Some refuted.bound }
 
--- the tree has one leaf, with these steps and this bound, and a text that isn't too long
-pub record IsLeafOf (refuted : found.Refuted) (tree : List Node) : Type 0 where
-  pub is : tree ≡ Refuted (leaf_of refuted) ∷ []
-  pub spelled : steps.IsRefutedText (leaf_of refuted)
-  pub few : length (steps.steps_text (leaf_of refuted).steps) ≤ 268000000
+-- the tree is this leaf alone, which has a text that isn't too long
+pub record IsLeaf (leaf : steps.Refuted) (tree : List Node) : Type 0 where
+  pub is : tree ≡ Refuted leaf ∷ []
+  pub spelled : steps.IsRefutedText leaf
+  pub few : length (steps.steps_text leaf.steps) ≤ 268000000
+
+abbrev pub IsLeafOf : found.Refuted → List Node → Type 0
+IsLeafOf refuted tree = IsLeaf (leaf_of refuted) tree
 
 -- what is asked of a circuit has a certificate's sizes
 pub record IsSpellable (asked : Problem) : Type 0 where

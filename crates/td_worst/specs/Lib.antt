@@ -2,3 +2,5 @@ pub mod Methods
 pub mod Leaves
 pub mod OpenAnswer
 pub mod Faults
+pub mod Kept
+pub mod Known

@@ -4,6 +4,9 @@
 mod combining;
 mod edge_bound;
 mod fault;
+mod kept_answer;
+mod kept_search;
+mod kept_timing;
 mod leaf;
 mod method;
 mod refuting;
@@ -11,6 +14,9 @@ mod searching;
 mod timing;
 
 pub use fault::WorstFault;
+pub use kept_answer::KeptAnswer;
+pub use kept_search::worst_kept_until;
+pub use kept_timing::worst_kept;
 pub use method::Method;
 pub use searching::worst_until;
 pub use timing::{TimedEffort, worst};

@@ -22,9 +22,9 @@ use td_refute::{Effort, Ending, Refuted, Sought, refute};
 use td_search::{Answer, Cause, Problem};
 use td_stop::Stop;
 
-// Why a search ends that shows no more: the time where the stop is set, the budget where it was
-// reached, else the memory that it would need.
-fn cause_of(ending: Ending, stop: &Stop) -> Cause
+/// Why a search ends that shows no more: the time where the stop is set, the budget where it was
+/// reached, else the memory that it would need.
+pub(crate) fn cause_of(ending: Ending, stop: &Stop) -> Cause
     ensures { result ≡ cause.Time → stop.now.can_be_set ≡ true }
 {
     if stop.is_set() {

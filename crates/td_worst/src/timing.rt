@@ -30,12 +30,12 @@ pub struct TimedEffort {
     pub seconds: Option<u32>,
 }
 
-// The limits of a search, and a timer that sets their stop after some seconds.
+/// The limits of a search, and a timer that sets their stop after some seconds.
 #[derive(Clone, Copy, Drop)]
-struct Timed<'a> {
-    limits: Limits<'a>,
-    timer: &'a Timer,
-    seconds: u32,
+pub(crate) struct Timed<'a> {
+    pub limits: Limits<'a>,
+    pub timer: &'a Timer,
+    pub seconds: u32,
 }
 
 /// Searches as `worst_until` does. Where seconds are given, a timer sets the stop once they have

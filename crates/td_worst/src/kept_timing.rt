@@ -1,0 +1,115 @@
+//! The search for the worst delay of the pairs that keep conditions, within a time.
+
+ghost use Rattle.std.specs.Prelude.{◌≡◌, ◌+◌, true, length, is_some, IfOk, IfErr};
+ghost use Rattle.td_circuit.specs.Numbering.{setting};
+ghost use Rattle.td_certificate.specs.Accepts.{are_fit};
+ghost use Rattle.td_worst.specs.Kept.{IsKeptAnswer, IsKeptWithinEdges, KeptTimeNeedsStop, IsKeptFault};
+
+use crate::fault::WorstFault;
+use crate::kept_answer::KeptAnswer;
+use crate::kept_search::worst_kept_until;
+use crate::timing::{Timed, TimedEffort};
+use std::alloc::Global;
+use std::sync::Wait;
+use std::thread;
+use std::thread::Threads;
+use std::time::Clock;
+use td_circuit::Circuit;
+use td_domain::Admit;
+use td_pool::Limits;
+use td_refutation::NamedCondition;
+use td_stop::{Stop, Timer};
+
+/// Searches as `worst_kept_until` does. Where seconds are given, a timer sets the stop once they
+/// have passed by the clock.
+///
+/// # Errors
+///
+/// As `worst_kept_until`, and `NoTimer` where seconds are given, and no thread can be started for
+/// the timer, or no clock be read.
+pub fn worst_kept<R: Threads + Wait + Clock + Sync>(
+    rt: &R,
+    alloc: Global,
+    circuit: &Circuit,
+    admit: &Admit,
+    keep: &[NamedCondition],
+    effort: TimedEffort,
+) -> Result<KeptAnswer, WorstFault>
+    requires held { length admit.now.held ≡ length circuit.now.netlist.inputs }
+    requires fit { are_fit (2 + length circuit.now.netlist.inputs + length circuit.now.netlist.gates) keep.now ≡ true }
+    ensures answer { IfOk result (IsKeptAnswer (setting circuit.now) (record { admit = admit.now; keep = keep.now })) }
+    ensures edges { IfOk result (IsKeptWithinEdges (setting circuit.now) admit.now) }
+    // Time is a cause only where seconds are given.
+    ensures time { IfOk result (KeptTimeNeedsStop (is_some effort.seconds)) }
+    ensures fault { IfErr result (IsKeptFault (is_some effort.seconds) admit.now) }
+{
+    let TimedEffort { effort, seconds } = effort;
+    let Some(seconds) = seconds else {
+        let stop = Stop::never();
+        let limits = Limits {
+            effort,
+            stop: &stop,
+        };
+        let found = worst_kept_until(rt, alloc, circuit, admit, keep, limits)?;
+        return Ok(found);
+    };
+    if !Timer::can_run(rt) {
+        return Err(WorstFault::NoTimer);
+    }
+    let stop = Stop::new();
+    let timer = Timer::new();
+    let timed = Timed {
+        limits: Limits {
+            effort,
+            stop: &stop,
+        },
+        timer: &timer,
+        seconds,
+    };
+    kept_within(rt, alloc, circuit, admit, keep, timed)
+}
+
+// As `worst_kept`, beside a thread that runs the timer.
+fn kept_within<R: Threads + Wait + Clock + Sync>(
+    rt: &R,
+    alloc: Global,
+    circuit: &Circuit,
+    admit: &Admit,
+    keep: &[NamedCondition],
+    timed: Timed<'_>,
+) -> Result<KeptAnswer, WorstFault>
+    requires held { length admit.now.held ≡ length circuit.now.netlist.inputs }
+    requires fit { are_fit (2 + length circuit.now.netlist.inputs + length circuit.now.netlist.gates) keep.now ≡ true }
+    ensures answer { IfOk result (IsKeptAnswer (setting circuit.now) (record { admit = admit.now; keep = keep.now })) }
+    ensures edges { IfOk result (IsKeptWithinEdges (setting circuit.now) admit.now) }
+    ensures fault { IfErr result (IsKeptFault true admit.now) }
+{
+    let Timed {
+        limits,
+        timer,
+        seconds,
+    } = timed;
+    let stop = limits.stop;
+    thread::scope(
+        thread::scope_env(),
+        rt,
+        |scope| -> Result<KeptAnswer, WorstFault>
+            requires held { length admit.now.held ≡ length circuit.now.netlist.inputs }
+            requires fit { are_fit (2 + length circuit.now.netlist.inputs + length circuit.now.netlist.gates) keep.now ≡ true }
+            ensures answer { IfOk result (IsKeptAnswer (setting circuit.entry.now) (record { admit = admit.entry.now; keep = keep.entry.now })) }
+            ensures edges { IfOk result (IsKeptWithinEdges (setting circuit.entry.now) admit.entry.now) }
+            ensures fault { IfErr result (IsKeptFault true admit.entry.now) }
+        {
+            let Ok(running) = scope.spawn(move || timer.run(rt, seconds, stop)) else {
+                return Err(WorstFault::NoTimer);
+            };
+            let found = worst_kept_until(rt, alloc, circuit, admit, keep, limits);
+            timer.end(rt);
+            running.join(rt);
+            match found {
+                Ok(answer) => Ok(answer),
+                Err(reason) => Err(WorstFault::Search(reason)),
+            }
+        },
+    )
+}
