@@ -1,4 +1,5 @@
--- The words of a command line, parted: those of options about inputs, and the others.
+-- The words of a command line, parted: those of options about inputs, and the others. A condition
+-- on a net is read as an option about inputs.
 use Rattle.std.specs.Prelude.{ℕ, List, [], ◌∷◌, ◌++◌, ◌==◌, Bool, true, false, Option, None, Some, is_some, codes, map, take, drop, if◌then◌else◌}
 use Rattle.std.specs.List.{fold}
 use Rattle.std.specs.Str.{bytes_eq}

@@ -1,4 +1,5 @@
-//! Which words of a command line are options about inputs, and which are others.
+//! Which words of a command line are options about inputs, and which are others. A condition on a
+//! net is read as such an option.
 
 ghost use Rattle.std.specs.Prelude.{◌≡◌, map, option_map, IfOk};
 ghost use Rattle.td_inputs.specs.Scans.{cut, is_by_name, joined_topic, scan_in, scan_of, taken_in};
