@@ -101,7 +101,12 @@ impl<'a> Arguments<'a> {
     }
 
     /// An option with a text.
-    pub(crate) fn option(&mut self, id: &'a str, value: &'a str, help: &'a str) -> Result<(), AllocError>
+    pub(crate) fn option(
+        &mut self,
+        id: &'a str,
+        value: &'a str,
+        help: &'a str,
+    ) -> Result<(), AllocError>
         ensures { OnOk result (TellsRule (option id.entry.now) self.old self.new) }
     {
         self.add(option(self.alloc, id, value, help))
@@ -109,7 +114,12 @@ impl<'a> Arguments<'a> {
 
     /// An option about an input or a net by its name. The parser takes no value of it: it is gone
     /// from the words that the parser gets.
-    pub(crate) fn named(&mut self, id: &'a str, value: &'a str, help: &'a str) -> Result<(), AllocError>
+    pub(crate) fn named(
+        &mut self,
+        id: &'a str,
+        value: &'a str,
+        help: &'a str,
+    ) -> Result<(), AllocError>
         ensures { OnOk result (TellsRule (named_option id.entry.now) self.old self.new) }
     {
         let named = option(self.alloc, id, value, help).value_parser(ValueParser::unsigned(1, 0));
