@@ -359,6 +359,15 @@ Commands that don't take them refuse them as any option.
   
   For more information, try '--help'.
   [2]
+  $ tdelay bound bus.v --keep a=11
+  error: unexpected argument '--keep' found
+  
+    tip: to pass '--keep' as a value, use '-- --keep'
+  
+  Usage: tdelay bound <FILE>
+  
+  For more information, try '--help'.
+  [2]
   $ tdelay check bus.v all.cert --pin a=1
   error: unexpected argument '--pin' found
   

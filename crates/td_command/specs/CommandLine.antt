@@ -50,7 +50,7 @@ Listed = Bor (List (Bor Text))
 abbrev pub texts_of : Listed → List Text
 texts_of names = map (λ name. name.now) names.now
 
--- An option about an input by its name, of which the parser takes no value: it gets
+-- An option about an input or a net by its name, of which the parser takes no value: it gets
 -- words without them, and where one still stands, the words have a fault.
 abbrev pub named_option : Text → Rule
 named_option id = record (option id) { parser = Some (Unsigned 1 0) }
@@ -92,10 +92,11 @@ pair_rules = needed (codes "FILE") ∷ needed (codes "FROM") ∷ needed (codes "
 abbrev pub cube_rules : List Rule
 cube_rules = option (codes "first") ∷ option (codes "second") ∷ named_option (codes "pin") ∷ []
 
--- the pairs that a search admits: those of a cube, where some inputs are held and the number of
--- flips has a limit
+-- the pairs that a search admits: those of a cube, where some inputs are held, nets meet conditions
+-- and the number of flips has a limit
 abbrev pub admitted_rules : List Rule
-admitted_rules = cube_rules ++ option (codes "hold") ∷ named_option (codes "hold-input") ∷ count_option (codes "flips") ∷ []
+admitted_rules =
+    cube_rules ++ option (codes "hold") ∷ named_option (codes "hold-input") ∷ named_option (codes "keep") ∷ count_option (codes "flips") ∷ []
 
 -- by which strategy a search goes
 abbrev pub strategy_rule : Listed → Rule

@@ -12,8 +12,7 @@ use Rattle.td_command.specs.declared.words.Words.{Words}
 abbrev pub all_of : Words → List Text
 all_of words = map (λ word. word.now) words.all.items
 
--- memory ran out, or the parser has this to report of the words, without those about inputs by name
--- or with them
+-- memory ran out, or the parser has this to report of the words, without those by name or with them
 abbrev pub HasFault : Words → Error → Type 0
 HasFault words error = HasKind (kinds_of (plain_of words)) error ⊎ HasKind (kinds_of (all_of words)) error
 

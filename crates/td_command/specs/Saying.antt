@@ -4,7 +4,7 @@ use Rattle.std.specs.Str.{bytes_eq}
 use Rattle.clap.specs.Words.{Row, Text, first_of, subcommand_of}
 use Rattle.td_reading.specs.declared.reading.Reading.{Reading}
 use Rattle.td_inputs.specs.declared.scanning.Taken.{Taken}
-use Rattle.td_inputs.specs.declared.topic.Topic.TheVariants.{At, Pin, HoldInput}
+use Rattle.td_inputs.specs.declared.topic.Topic.TheVariants.{At, Pin, HoldInput, Keep}
 use Rattle.td_inputs.specs.Readings.{has}
 use Rattle.td_inputs.specs.Scans.{Taken as Said, taken_in}
 use Rattle.td_request.specs.declared.effort.Effort.{Effort}
@@ -29,8 +29,8 @@ use Rattle.td_command.specs.CommandLine.{HasCount, HasWord, HasWords, HasFlag, L
 use Rattle.td_command.specs.declared.words.Words.{Words}
 use Rattle.td_command.specs.declared.requests.Common.{Common}
 
--- what is said of inputs: by place in options of the command, by name in words that are no options
--- of the parser
+-- what is said of inputs by place in options of the command, and of inputs and nets by name in words
+-- that are no options of the parser
 pub record SaysInputs (rows : List Row) (named : List Taken) (said : Inputs) : Type 0 where
   pub first : HasWord (codes "first") rows said.given.first
   pub second : HasWord (codes "second") rows said.given.second
@@ -149,31 +149,31 @@ pub record SaysRequest (name : Text) (rows : List Row) (named : List Taken) (sai
 abbrev pub EntersRequest : Option (Text × List Row) → List Taken → Request → Type 0
 EntersRequest entered named said = (name : Text) × (rows : List Row) × (entered ≡ Some (name, rows)) × SaysRequest name rows named said
 
--- the words of a command line, but for those about inputs by name
+-- the words of a command line, but for those about inputs and nets by name
 abbrev pub plain_of : Words → List Text
 plain_of words = map (λ word. word.now) words.plain.items
 
--- The program takes the words, but for those about inputs by name, and they ask for this.
+-- The program takes the words, but for those by name, and they ask for this.
 pub record AskFor (words : Words) (said : Request) : Type 0 where
   pub taken : kinds_of (plain_of words) ≡ []
   pub asks : EntersRequest (subcommand_of program (plain_of words)) words.named.items said
 
--- the command of this name takes what is said of inputs by name
+-- the command of this name takes what is said of inputs and nets by name
 abbrev pub takes : Text → List Said → Bool
 takes name named =
     let searches = bytes_eq name (codes "worst") || (bytes_eq name (codes "parts") || bytes_eq name (codes "join")) in
     let pins = searches || bytes_eq name (codes "bound") in
     let moments = searches || (bytes_eq name (codes "bound") || (bytes_eq name (codes "sim") || bytes_eq name (codes "path"))) in
-    (pins || not (has Pin named)) && ((searches || not (has HoldInput named)) && (moments || not (has At named)))
+    (pins || not (has Pin named)) && ((searches || not (has HoldInput named)) && ((searches || not (has Keep named)) && (moments || not (has At named))))
 
 abbrev pub takes_entered : Option (Text × List Row) → List Said → Bool
 takes_entered None named = true
 takes_entered (Some entered) named = takes entered.0 named
 
--- the command of the words takes what they say of inputs by name
+-- the command of the words takes what they say by name
 abbrev pub take_names : Words → Bool
 take_names words = takes_entered (subcommand_of program (plain_of words)) (map taken_in words.named.items)
 
--- whatever else is said of inputs by name, words that the program takes ask for a command
+-- whatever else is said by name, words that the program takes ask for a command
 abbrev pub TakenAsk : Type 0
 TakenAsk = (words : List Text) (named : List Taken) → kinds_of words ≡ [] → (said : Request) × EntersRequest (subcommand_of program words) named said

@@ -1,7 +1,7 @@
 //! The command line of `tdelay`: what its words ask for.
 //!
 //!     words ──parted──▶ plain words ──clap──▶ arguments ──▶ Request
-//!                  ╲──▶ what is said of inputs by name ──╱
+//!                  ╲──▶ what is said of inputs and nets by name ──╱
 #![tactic(auto)]
 
 mod arguments;
@@ -12,6 +12,9 @@ pub mod laws;
 mod line;
 mod options;
 mod requests;
+mod shared;
+#[cfg(test)]
+mod tests;
 mod words;
 
 pub use conflicts::{Conflict, conflict_of};

@@ -15,7 +15,7 @@ use std::alloc::Global;
 use td_inputs::{Taken, Topic, has};
 use td_request::Request;
 
-/// Whether the command of this name takes what is said of inputs by name.
+/// Whether the command of this name takes what is said of inputs and nets by name.
 fn takes(name: &str, named: &[Taken<'_>]) -> bool
     ensures { result ≡ takes name.now (map taken_in named.now) }
 {
@@ -23,10 +23,11 @@ fn takes(name: &str, named: &[Taken<'_>]) -> bool
     let pins = searches || name == "bound";
     let moments = searches || (name == "bound" || (name == "sim" || name == "path"));
     (pins || !has(Topic::Pin, named))
-        && ((searches || !has(Topic::HoldInput, named)) && (moments || !has(Topic::At, named)))
+        && ((searches || !has(Topic::HoldInput, named))
+            && ((searches || !has(Topic::Keep, named)) && (moments || !has(Topic::At, named))))
 }
 
-/// Whether the command that was entered takes what is said of inputs by name.
+/// Whether the command that was entered takes what is said of inputs and nets by name.
 fn takes_entered(matches: &ArgMatches<'_>, named: &[Taken<'_>]) -> bool
     ensures { result ≡ takes_entered (subcommand_rows_of matches.now) (map taken_in named.now) }
 {
@@ -36,8 +37,8 @@ fn takes_entered(matches: &ArgMatches<'_>, named: &[Taken<'_>]) -> bool
     }
 }
 
-/// What the parser says of the words as they came, where the command doesn't take what they say of
-/// inputs by name.
+/// What the parser says of the words as they came, where the command doesn't take what they say by
+/// name.
 fn untaken<'a>(alloc: Global, words: &Words<'_>) -> Result<Option<Request<'a>>, Error>
     ensures asked { IfOk result (λ asked. asked ≡ None) }
     ensures fault { IfErr result (HasKind (kinds_of (all_of words.now))) }
@@ -48,8 +49,8 @@ fn untaken<'a>(alloc: Global, words: &Words<'_>) -> Result<Option<Request<'a>>, 
     }
 }
 
-/// What the words of a command line ask for. They are parsed once. None where they say something of
-/// inputs by name that their command doesn't take, and the parser has nothing to say of it.
+/// What the words of a command line ask for. They are parsed once. None where they say something by
+/// name that their command doesn't take, and the parser has nothing to say of it.
 ///
 /// # Errors
 ///

@@ -1,22 +1,22 @@
-//! The words of a command line, with those about inputs by name set apart.
+//! The words of a command line, with those about inputs and nets by name set apart.
 
 ghost use Rattle.std.specs.Prelude.{◌≡◌, ◌++◌, map, IfOk, OnOk};
 ghost use Rattle.td_inputs.specs.Scans.{taken_in, with_words};
-ghost use Rattle.td_command.specs.Parting.{is_command, begin_with_command, name_inputs, AreParted};
+ghost use Rattle.td_command.specs.Parting.{is_command, begin_with_command, say_by_name, AreParted};
 
 use std::alloc::{AllocError, Global};
 use std::convert::AsStr;
 use td_inputs::{Scan, Taken, Topic, has, parted};
 
-/// The words of a command line. What is said of inputs by name is set apart, where it comes with a
-/// command that comes first.
+/// The words of a command line. What is said of inputs and nets by name is set apart, where it comes
+/// with a command that comes first.
 #[derive(Drop)]
 pub struct Words<'a> {
     /// The words as they came.
     pub(crate) all: Vec<&'a str>,
-    /// The words without those about inputs by name: those by place stand after the command.
+    /// The words without those by name: those about inputs by place stand after the command.
     pub(crate) plain: Vec<&'a str>,
-    /// What is said of inputs by name.
+    /// What is said of inputs and nets by name.
     pub(crate) named: Vec<Taken<'a>>,
 }
 
@@ -41,11 +41,14 @@ fn begin_with_command<S: AsStr>(words: &[S]) -> bool
     }
 }
 
-/// Whether something is said of inputs by name.
-fn name_inputs(named: &[Taken<'_>]) -> bool
-    ensures { result ≡ name_inputs (map taken_in named.now) }
+/// Whether something is said by name.
+fn say_by_name(named: &[Taken<'_>]) -> bool
+    ensures { result ≡ say_by_name (map taken_in named.now) }
 {
-    has(Topic::Pin, named) || has(Topic::HoldInput, named) || has(Topic::At, named)
+    has(Topic::Pin, named)
+        || has(Topic::HoldInput, named)
+        || has(Topic::Keep, named)
+        || has(Topic::At, named)
 }
 
 /// Appends words.
@@ -86,7 +89,7 @@ impl<'a> Words<'a> {
     {
         let scan = parted(alloc, words)?;
         let all = texts(alloc, words)?;
-        if name_inputs(&scan.taken) && begin_with_command(words) {
+        if say_by_name(&scan.taken) && begin_with_command(words) {
             return apart(alloc, all, scan);
         }
         let plain = texts(alloc, words)?;
@@ -98,7 +101,7 @@ impl<'a> Words<'a> {
     }
 }
 
-/// The words as they came, those about inputs by name, and the others.
+/// The words as they came, those by name, and the others.
 fn apart<'a>(alloc: Global, all: Vec<&'a str>, scan: Scan<'a>) -> Result<Words<'a>, AllocError>
     ensures plain { IfOk result (λ words. map (λ word. word.now) words.plain.items ≡ with_words (map (λ word. word.now) scan.entry.rest.items) (map (λ word. word.now) scan.entry.given.items)) }
     ensures named { IfOk result (λ words. words.named.items ≡ scan.entry.taken.items) }

@@ -1,5 +1,6 @@
 //! What the words of a command line say of a netlist's inputs by their names, and the words that
-//! say the same by place.
+//! say the same by place. Conditions on nets stand among the words by name, and say nothing of
+//! inputs.
 #![tactic(auto)]
 
 mod cells;

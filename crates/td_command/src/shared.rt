@@ -1,0 +1,348 @@
+//! The arguments that commands have in common.
+
+ghost use Rattle.std.specs.Prelude.{◌≡◌, ◌++◌, [], ◌∷◌, codes, OnOk};
+ghost use Rattle.td_command.specs.CommandLine.{needed, needed_words, needed_number, option, number_option, flag};
+ghost use Rattle.td_command.specs.CommandLine.{with_letter, workers_letter, quiet_letter, common_rules, pair_rules, cube_rules, admitted_rules, strategy_rule, certificate_rule, outputs_rule, search_rules};
+ghost use Rattle.td_command.specs.Telling.{TellsRule, TellsRules};
+
+use crate::arguments::{Arguments, flag, number, option};
+use crate::help::{LATEST_HELP, OUTPUT_HELP};
+use clap::ArgAction;
+use std::alloc::AllocError;
+use td_gates::Delay;
+use td_request::{MOST_NODES, MOST_PARTS, MOST_WORKERS};
+
+impl<'a> Arguments<'a> {
+    pub(crate) fn file(&mut self) -> Result<(), AllocError>
+        ensures { OnOk result (TellsRule (needed (codes "FILE")) self.old self.new) }
+    {
+        self.needed(
+            "FILE",
+            "The netlist, a path, or `-` or `stdin` for standard input",
+        )
+    }
+
+    /// The delay of gates that state none, as two options.
+    fn default_delay(&mut self) -> Result<(), AllocError>
+        ensures { OnOk result (TellsRules (number_option (codes "default-rise") 1 1000000000 (codes "1") ∷ number_option (codes "default-fall") 1 1000000000 (codes "1") ∷ []) self.old self.new) }
+    {
+        self.number(
+            "default-rise",
+            1,
+            Delay::MAX,
+            "1",
+            "Rise delay in steps of gates without a delay",
+        )?;
+        self.number(
+            "default-fall",
+            1,
+            Delay::MAX,
+            "1",
+            "Fall delay in steps of gates without a delay",
+        )
+    }
+
+    /// Whether there is no report, as a flag.
+    fn quiet(&mut self) -> Result<(), AllocError>
+        ensures { OnOk result (TellsRule (with_letter quiet_letter (flag (codes "quiet"))) self.old self.new) }
+    {
+        let help = "Prints no report: the exit status shows how the command ended";
+        let quiet = flag(self.alloc, "quiet", help);
+        self.add(quiet.short('q'))
+    }
+
+    /// What all commands take: the delay of gates that state none, whether hints stand after a
+    /// refusal, whether the report is JSON, and whether there is none.
+    pub(crate) fn common(&mut self) -> Result<(), AllocError>
+        ensures { OnOk result (TellsRules common_rules self.old self.new) }
+    {
+        self.default_delay()?;
+        self.flag(
+            "hints",
+            "After the line of a refusal, prints to standard error what it means and\n\
+what to do, as at a terminal",
+        )?;
+        self.flag(
+            "json",
+            "Prints the report as one JSON object, which has the keys of the\n\
+report's lines",
+        )?;
+        self.quiet()
+    }
+
+    /// When each input takes its second level, as an option.
+    pub(crate) fn moments(&mut self) -> Result<(), AllocError>
+        ensures { OnOk result (TellsRule (option (codes "at")) self.old self.new) }
+    {
+        self.option(
+            "at",
+            "TIMES",
+            "When each input takes its second level: a number of steps for each in\n\
+order, separated by commas; all 0 if left out. Or NAME=T, the\n\
+time of the input of this name, as often as needed",
+        )
+    }
+
+    /// Where the waves of a pair's run go, as an option.
+    pub(crate) fn vcd(&mut self) -> Result<(), AllocError>
+        ensures { OnOk result (TellsRule (option (codes "vcd")) self.old self.new) }
+    {
+        self.option(
+            "vcd",
+            "OUT",
+            "Writes the waves of the pair to this file, as a value change dump",
+        )
+    }
+
+    /// Which output's path is asked for, as an option.
+    pub(crate) fn output(&mut self, help: &'a str) -> Result<(), AllocError>
+        ensures { OnOk result (TellsRule (option (codes "output")) self.old self.new) }
+    {
+        self.option("output", "NAME", help)
+    }
+
+    /// Which outputs are asked about, as an option that may be given any number of times.
+    pub(crate) fn asked_outputs(&mut self) -> Result<(), AllocError>
+        ensures { OnOk result (TellsRule outputs_rule self.old self.new) }
+    {
+        let output = option(self.alloc, "output", "NAME", OUTPUT_HELP);
+        self.add(output.action(ArgAction::Append))
+    }
+
+    /// Whether it is asked which output changes last, or has the bound, as a flag.
+    pub(crate) fn outputs(&mut self, help: &'a str) -> Result<(), AllocError>
+        ensures { OnOk result (TellsRule (flag (codes "outputs")) self.old self.new) }
+    {
+        self.flag("outputs", help)
+    }
+
+    /// Whether each output is asked about in turn, as a flag.
+    pub(crate) fn each(&mut self) -> Result<(), AllocError>
+        ensures { OnOk result (TellsRule (flag (codes "each")) self.old self.new) }
+    {
+        self.flag(
+            "each",
+            "Asks about every output by itself, one after another, and prints a\n\
+line for each: its worst delay, and its bound by edges",
+        )
+    }
+
+    /// The netlist and a pair of vectors, as three words.
+    pub(crate) fn pair(&mut self) -> Result<(), AllocError>
+        ensures { OnOk result (TellsRules pair_rules self.old self.new) }
+    {
+        self.file()?;
+        self.needed(
+            "FROM",
+            "The first vector: 0, 1 or x for each input in the order that `info`\n\
+shows, or `none` if there are no inputs",
+        )?;
+        self.needed(
+            "TO",
+            "The second vector, which the inputs take from time 0 or those of\n\
+--at on",
+        )
+    }
+
+    /// The pairs of a cube, as two options, and an option that pins inputs by their names.
+    pub(crate) fn cube(&mut self) -> Result<(), AllocError>
+        ensures { OnOk result (TellsRules cube_rules self.old self.new) }
+    {
+        self.option(
+            "first",
+            "TRITS",
+            "The first vector: 0, 1 or . (free) for each input in the order that\n\
+`info` shows; all free if left out",
+        )?;
+        self.option(
+            "second",
+            "TRITS",
+            "The second vector, which the inputs take from time 0 or those of\n\
+--at on",
+        )?;
+        self.named(
+            "pin",
+            "NAME=VALUE",
+            "Both vectors have this level, 0 or 1, at the input of this name; `.`\n\
+leaves it free. Of a vector the value is a number, as 8'hff. Any\n\
+number of times",
+        )
+    }
+
+    /// Whether the bounds by edges are asked for, as a flag.
+    pub(crate) fn edges(&mut self) -> Result<(), AllocError>
+        ensures { OnOk result (TellsRule (flag (codes "edges")) self.old self.new) }
+    {
+        self.flag(
+            "edges",
+            "Bounds by edges too, each net's rise and fall apart (e), and by edges\n\
+and possible levels at once (n)",
+        )
+    }
+
+    /// Whether the chain of the given pair is asked for, how far the search is, and which output
+    /// changes last, as flags.
+    pub(crate) fn reported(&mut self) -> Result<(), AllocError>
+        ensures { OnOk result (TellsRules (flag (codes "path") ∷ flag (codes "progress") ∷ flag (codes "outputs") ∷ []) self.old self.new) }
+    {
+        self.flag(
+            "path",
+            "After the other lines, the changes that lead to the last change of the\n\
+given pair, as `path` prints them",
+        )?;
+        self.flag(
+            "progress",
+            "Writes to standard error how far the search is, each time that the\n\
+nodes handled pass 1, 2, 5, 10, 20, .. thousand, and every ten seconds",
+        )?;
+        self.outputs(LATEST_HELP)
+    }
+
+    /// The pairs that a search admits, as options.
+    pub(crate) fn admitted(&mut self) -> Result<(), AllocError>
+        ensures { OnOk result (TellsRules admitted_rules self.old self.new) }
+    {
+        self.cube()?;
+        self.option(
+            "hold",
+            "MASK",
+            "The inputs whose two levels are the same: = (held) or . for each in\n\
+order; none held if left out",
+        )?;
+        self.named(
+            "hold-input",
+            "NAME",
+            "The two levels of the input of this name are the same. Any number of\n\
+times",
+        )?;
+        self.named(
+            "keep",
+            "NET=FS",
+            "Admits only pairs under which the net of this name settles at F under\n\
+the first vector and at S under the second, each 0, 1 or . (either); with\n\
+NET==, at the same level under both. Any number of times",
+        )?;
+        self.count(
+            "flips",
+            "The most inputs whose two levels differ; any number of them if left\n\
+out",
+        )
+    }
+
+    /// By which strategy a search goes, as an option.
+    pub(crate) fn strategy(&mut self, names: &'a [&'a str]) -> Result<(), AllocError>
+        ensures { OnOk result (TellsRule (strategy_rule names.entry) self.old self.new) }
+    {
+        self.name(
+            "strategy",
+            "NAME",
+            names,
+            "auto",
+            "How the search goes. `least` and `lead` split cubes of pairs; `lead`\n\
+climbs to a first pair and bounds by edges. `refute` asks a solver how\n\
+long nets keep their levels. Certificates of `lead` and `refute` are of\n\
+version 4. `auto` is a short `least`, a short `lead`, then `refute`, then\n\
+`lead` again, until one of them\n\
+ends",
+        )
+    }
+
+    /// How many threads search, as an option.
+    fn workers(&mut self) -> Result<(), AllocError>
+        ensures { OnOk result (TellsRule (with_letter workers_letter (number_option (codes "workers") 1 64 (codes "1"))) self.old self.new) }
+    {
+        let workers = number(
+            self.alloc,
+            "workers",
+            1,
+            MOST_WORKERS,
+            "1",
+            "How many threads search, from 1 to 64",
+        );
+        self.add(workers.short('j'))
+    }
+
+    /// Where a certificate goes, as an option.
+    fn certificate_out(&mut self, help: &'a str) -> Result<(), AllocError>
+        ensures { OnOk result (TellsRule certificate_rule self.old self.new) }
+    {
+        self.add(option(self.alloc, "cert", "OUT", help).short('o'))
+    }
+
+    /// How a search goes, and where its certificate goes, as options.
+    fn search(&mut self, strategies: &'a [&'a str]) -> Result<(), AllocError>
+        ensures { OnOk result (TellsRules (search_rules strategies.entry) self.old self.new) }
+    {
+        self.workers()?;
+        self.strategy(strategies)?;
+        self.number(
+            "budget",
+            0,
+            MOST_NODES,
+            "1000000",
+            "The most nodes of trees of cubes that are handled, and the most work\n\
+of `refute`, in units",
+        )?;
+        self.count(
+            "seconds",
+            "Ends the search after this many seconds of the clock; the answer then\n\
+lies between two figures",
+        )?;
+        self.certificate_out("Writes the certificate of an exact answer to this file")
+    }
+
+    /// The netlist, the pairs that a search of its worst delay admits, and how the search goes.
+    pub(crate) fn searched(&mut self, strategies: &'a [&'a str]) -> Result<(), AllocError>
+        ensures { OnOk result (TellsRules (needed (codes "FILE") ∷ admitted_rules ++ option (codes "at") ∷ search_rules strategies.entry) self.old self.new) }
+    {
+        self.file()?;
+        self.admitted()?;
+        self.moments()?;
+        self.search(strategies)
+    }
+
+    /// How many parts a question has, as an option that has to be given.
+    pub(crate) fn parts(&mut self) -> Result<(), AllocError>
+        ensures { OnOk result (TellsRule (needed_number (codes "parts") 1 65536) self.old self.new) }
+    {
+        self.needed_number(
+            "parts",
+            1,
+            MOST_PARTS,
+            "How many parts the question is cut into, from 1 to 65536",
+        )
+    }
+
+    /// The certificates that are joined, where theirs goes, and whether each is checked, which is
+    /// said or left out.
+    pub(crate) fn joined(&mut self) -> Result<(), AllocError>
+        ensures { OnOk result (TellsRules (needed_words (codes "CERT") ∷ certificate_rule ∷ flag (codes "check") ∷ flag (codes "no-check") ∷ []) self.old self.new) }
+    {
+        self.needed_words(
+            "CERT",
+            "The certificates of the parts, each a path, or `-` or `stdin` for\n\
+standard input",
+        )?;
+        self.certificate_out("Writes the certificate of the whole question to this file")?;
+        self.flag(
+            "check",
+            "Checks the certificate of each part before it is joined, as `check`\n\
+does; so it is without this too",
+        )?;
+        self.flag(
+            "no-check",
+            "Joins certificates that aren't checked, which is quicker: the report\n\
+says `unchecked T` in place of `exact T`",
+        )
+    }
+
+    /// A certificate, as a word.
+    pub(crate) fn certificate(&mut self) -> Result<(), AllocError>
+        ensures { OnOk result (TellsRule (needed (codes "CERT")) self.old self.new) }
+    {
+        self.needed(
+            "CERT",
+            "The certificate, a path, or `-` or `stdin` for standard input",
+        )
+    }
+}
