@@ -4,7 +4,7 @@ use Rattle.std.specs.Borrow.{Bor}
 use Rattle.td_inputs.specs.declared.placing.Placing.{Placing as CodePlacing}
 use Rattle.td_inputs.specs.declared.placing.Placing.TheVariants as code
 use Rattle.td_inputs.specs.declared.topic.Topic.{Topic}
-use Rattle.td_inputs.specs.declared.topic.Topic.TheVariants.{First, Second, Hold, At, Pin, HoldInput}
+use Rattle.td_inputs.specs.declared.topic.Topic.TheVariants.{First, Second, Hold, At, Pin, HoldInput, Keep}
 use Rattle.td_inputs.specs.declared.words.ByPlace.{ByPlace}
 use Rattle.td_inputs.specs.declared.placing.Given.{Given}
 use Rattle.td_inputs.specs.declared.writing.Letters.{Letters}

@@ -4,7 +4,7 @@ use Rattle.std.specs.Global.{Vec}
 use Rattle.td_inputs.specs.declared.sayings.WordFault.{WordFault}
 use Rattle.td_inputs.specs.declared.sayings.WordFault.TheVariants as code
 use Rattle.td_inputs.specs.declared.topic.Topic.{Topic}
-use Rattle.td_inputs.specs.declared.topic.Topic.TheVariants.{First, Second, Hold, At, Pin, HoldInput}
+use Rattle.td_inputs.specs.declared.topic.Topic.TheVariants.{First, Second, Hold, At, Pin, HoldInput, Keep}
 use Rattle.td_inputs.specs.declared.value.Value.{Value}
 use Rattle.td_inputs.specs.declared.value.Value.TheVariants.{Each}
 use Rattle.td_inputs.specs.Cells.{clash_from, moment_of, named_count, pin_value, said, together}
@@ -39,8 +39,10 @@ named_parts Hold text = cut 61 text
 named_parts At text = cut 61 text
 named_parts Pin text = cut 61 text
 named_parts HoldInput text = Some (text, [])
+named_parts Keep text = cut 61 text
 
--- what the value in a word says, where it names that many inputs
+-- what the value in a word says, where it names that many inputs; a condition on a net says nothing
+-- of inputs
 abbrev pub value_by : Topic → ℕ → Text → Option Value
 value_by First count text = None
 value_by Second count text = None
@@ -48,6 +50,7 @@ value_by Hold count text = None
 value_by At count text = moment_of text
 value_by Pin count text = pin_value count text
 value_by HoldInput count text = Some (Each 1)
+value_by Keep count text = None
 
 abbrev pub reading_value : List Label → Taken → Text → Option Value → Result Cells Fault
 reading_value labels taken name None = Err (Bad taken.topic taken.text)
@@ -68,6 +71,7 @@ abbrev pub same_topic : Topic → Topic → Bool
 same_topic Pin Pin = true
 same_topic HoldInput HoldInput = true
 same_topic At At = true
+same_topic Keep Keep = true
 same_topic one other = false
 
 -- an option by name is among those taken

@@ -3,7 +3,7 @@ use Rattle.std.specs.Prelude.{ℕ, List, [], ◌∷◌, ◌++◌, ◌==◌, Bool
 use Rattle.std.specs.List.{fold}
 use Rattle.std.specs.Str.{bytes_eq}
 use Rattle.td_inputs.specs.declared.topic.Topic.{Topic}
-use Rattle.td_inputs.specs.declared.topic.Topic.TheVariants.{First, Second, Hold, At, Pin, HoldInput}
+use Rattle.td_inputs.specs.declared.topic.Topic.TheVariants.{First, Second, Hold, At, Pin, HoldInput, Keep}
 use Rattle.td_inputs.specs.declared.scanning.Taken.{Taken as CodeTaken}
 use Rattle.td_inputs.specs.declared.scanning.Mode.{Mode}
 use Rattle.td_inputs.specs.declared.scanning.Mode.TheVariants.{Reading, Awaiting, Ended}
@@ -72,8 +72,8 @@ with_given scan option word = record scan { given = (scan.given ++ option ∷ []
 abbrev pub with_joined : Scan → Text → Scan
 with_joined scan word = record scan { given = scan.given ++ word ∷ [] }
 
--- an option that has this word says something of inputs by their names; `--at` does so with a `=`
--- alone
+-- an option that has this word says something of inputs, or of a net, by name; `--at` does so with
+-- a `=` alone
 abbrev pub is_by_name : Topic → Text → Bool
 is_by_name First text = false
 is_by_name Second text = false
@@ -81,6 +81,7 @@ is_by_name Hold text = false
 is_by_name At text = is_some (cut 61 text)
 is_by_name Pin text = true
 is_by_name HoldInput text = true
+is_by_name Keep text = true
 
 -- the word of an option about inputs
 abbrev pub answered : Scan → Topic → Text → Scan

@@ -35,7 +35,8 @@ fn named_parts<'a>(taken: Taken<'a>) -> Option<(&'a [u8], &'a [u8])>
     }
 }
 
-/// What the value in a word says, where it names that many inputs.
+/// What the value in a word says, where it names that many inputs. A condition on a net says
+/// nothing of inputs.
 fn value_by(topic: Topic, count: usize, text: &[u8]) -> Option<Value>
     ensures { result ≡ value_by topic count text.now }
 {
@@ -43,7 +44,7 @@ fn value_by(topic: Topic, count: usize, text: &[u8]) -> Option<Value>
         Topic::Pin => pin_value(count, text),
         Topic::HoldInput => Some(Value::Each(1)),
         Topic::At => moment(text),
-        Topic::First | Topic::Second | Topic::Hold => None,
+        Topic::First | Topic::Second | Topic::Hold | Topic::Keep => None,
     }
 }
 
@@ -70,7 +71,7 @@ pub fn reading<'a>(
     Ok(Ok(cells))
 }
 
-/// Whether two options are the same.
+/// Whether two options by name are the same.
 fn same_topic(one: Topic, other: Topic) -> bool
     ensures { result ≡ same_topic one other }
 {
@@ -78,6 +79,7 @@ fn same_topic(one: Topic, other: Topic) -> bool
         (Topic::Pin, Topic::Pin) => true,
         (Topic::HoldInput, Topic::HoldInput) => true,
         (Topic::At, Topic::At) => true,
+        (Topic::Keep, Topic::Keep) => true,
         _ => false,
     }
 }

@@ -58,13 +58,13 @@ fn joined<'a>(word: &'a [u8]) -> Option<Taken<'a>>
     Some(Taken { topic, text })
 }
 
-/// Whether an option that has this word says something of inputs by their names. `--at` does so
-/// with a `=` alone.
+/// Whether an option that has this word says something of inputs, or of a net, by name. `--at`
+/// does so with a `=` alone.
 fn is_by_name(topic: Topic, text: &[u8]) -> bool
     ensures { result ≡ is_by_name topic text.now }
 {
     match topic {
-        Topic::Pin | Topic::HoldInput => true,
+        Topic::Pin | Topic::HoldInput | Topic::Keep => true,
         Topic::At => cut(b'=', text).is_some(),
         Topic::First | Topic::Second | Topic::Hold => false,
     }

@@ -4,7 +4,7 @@ use crate::labels::{Label, labels_of};
 use crate::numbers::number;
 use crate::placing::{Given, places};
 use crate::sayings::{WordFault, has};
-use crate::scanning::parted;
+use crate::scanning::{Taken, parted};
 use crate::topic::Topic;
 use crate::words::{ByPlace, with_options, with_words};
 use std::alloc::{AllocError, Global};
@@ -56,6 +56,35 @@ fn parts_words(rt: HostRuntime) -> Result<(), Fail> {
     let plain = with_words(rt.alloc(), &scan.rest, &scan.given)?;
     assert_eq!(rt; plain.len(), 6);
     Ok(())
+}
+
+/// Conditions on nets stand among options by name, in order, and leave the words by place as they
+/// are.
+#[test]
+fn keeps_conditions(rt: HostRuntime) -> Result<(), Fail> {
+    let words = ["t", "sim", "--keep", "a=1.", "--pin", "a=1", "--keep=a=="];
+    let scan = parted(rt.alloc(), &words)?;
+    assert_eq!(rt; scan.taken.len(), 3);
+    assert!(rt; has(Topic::Keep, &scan.taken));
+    assert!(rt; is_keep(scan.taken.first(), b"a=1."));
+    assert!(rt; is_keep(scan.taken.last(), b"a=="));
+    assert_eq!(rt; scan.rest.len(), 2);
+    let alone = placed(rt.alloc(), "--keep", "b=11", NOTHING)?;
+    assert!(rt; alone.as_str() == "/t/sim");
+    Ok(())
+}
+
+/// Whether this is a condition with such a text.
+fn is_keep(taken: Option<&Taken<'_>>, text: &[u8]) -> bool {
+    match taken {
+        Some(
+            Taken {
+                topic: Topic::Keep,
+                text: found,
+            },
+        ) => *found == text,
+        _ => false,
+    }
 }
 
 /// The words by place of what one option by name says, each with a slash before it; or what is

@@ -1,9 +1,9 @@
-//! The options that say something of inputs.
+//! The options that say something of inputs, and the one that says something of a net.
 
 ghost use Rattle.std.specs.Prelude.{◌≡◌};
 ghost use Rattle.td_inputs.specs.Topics.{option_of, topic_of};
 
-/// An option that says something of inputs.
+/// An option that says something of inputs, or of a net.
 #[derive(Clone, Copy, Debug, PartialEq, Eq)]
 pub enum Topic {
     /// `--first`, the first vectors, by place.
@@ -18,6 +18,8 @@ pub enum Topic {
     Pin,
     /// `--hold-input`, an input that keeps its level, by name.
     HoldInput,
+    /// `--keep`, a condition on a net's settled levels, by name.
+    Keep,
 }
 
 impl Topic {
@@ -35,6 +37,7 @@ impl Topic {
             Topic::At => "--at",
             Topic::Pin => "--pin",
             Topic::HoldInput => "--hold-input",
+            Topic::Keep => "--keep",
         }
     }
 }
@@ -55,6 +58,8 @@ pub(crate) fn topic_of(word: &[u8]) -> Option<Topic>
         Some(Topic::Pin)
     } else if word == b"--hold-input".as_slice() {
         Some(Topic::HoldInput)
+    } else if word == b"--keep".as_slice() {
+        Some(Topic::Keep)
     } else {
         None
     }
