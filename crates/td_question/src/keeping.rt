@@ -62,7 +62,7 @@ fn levels_of(first: u8, second: u8) -> Option<Form>
 
 /// The parts of a word of a condition. What is asked stands at its end, so that names may have any
 /// characters.
-fn parts(word: &[u8]) -> Option<Parts<'_>>
+fn parts_of(word: &[u8]) -> Option<Parts<'_>>
     ensures some { IfSome result (λ parts. HasParts word.now parts.name.now parts.form) }
     ensures none { IfNone result ((name : List ℕ) (form : FormModel) → ¬ HasParts word.now name form) }
 {
@@ -114,7 +114,7 @@ fn names_of<'w>(alloc: Global, words: &[&'w [u8]]) -> Result<NetNames<'w>, Alloc
 {
     let mut names = NetNames::new(alloc);
     for word in words {
-        if let Some(parts) = parts(word) {
+        if let Some(parts) = parts_of(word) {
             names.add(parts.name)?;
         }
     }
@@ -131,7 +131,7 @@ fn condition_of<'w>(
     ensures said { IfOk result (λ condition. (netlist : Netlist) → AreFound netlist names.now numbers.now → SaysCondition netlist word.now condition) }
     ensures fault { IfErr result (λ fault. (netlist : Netlist) → AreFound netlist names.now numbers.now → IsFaultOfWord netlist word.now fault) }
 {
-    let Some(parts) = parts(word) else {
+    let Some(parts) = parts_of(word) else {
         return Err(KeepFault::Bad(word));
     };
     match names.number_of(parts.name, numbers) {
