@@ -9,7 +9,9 @@ use td_inputs::{Given, Taken, Topic, WordFault};
 use td_question::vector::VectorWord;
 use td_question::{Asked, QuestionFault, cube_of, pair_of, question_of};
 use td_reading::Reading;
+use td_refutation::NamedCondition;
 use td_request::{Inputs, Question};
+use td_spans::Form;
 
 const TEXT: &[u8] =
     b"module t(a, b, y);\ninput [1:0] a;\ninput b;\noutput y;\nand #2 g(y,a[1],a[0],b);\nendmodule\n";
@@ -191,6 +193,139 @@ fn spells_a_pair(rt: HostRuntime) -> Result<(), Fail> {
         "11",
     ) {
         Err(QuestionFault::BadVector(VectorWord::To)) => {}
+        _ => assert!(rt; false),
+    }
+    Ok(())
+}
+
+/// Gates that stand in another order than that of their signals, and a net with an `=` in its name.
+const KEPT: &[u8] =
+    b"module t(a, b, y);\ninput [1:0] a;\ninput b;\noutput y;\nwire \\n=1 ;\nand #2 g(y,\\n=1 ,a[0]);\nnot #1 h(\\n=1 ,b);\nendmodule\n";
+
+/// What is asked about the inputs and gates of `KEPT` by words of conditions.
+fn kept<'a>(
+    rt: &impl Abort,
+    alloc: Global,
+    named: &'a [Taken<'a>],
+) -> Result<Asked, QuestionFault<'static, 'a>> {
+    let question = Question {
+        inputs: Inputs {
+            given: nothing(),
+            named,
+        },
+        flips: None,
+    };
+    question_of(alloc, KEPT, &reading(rt, alloc), &question)
+}
+
+fn keep<'a>(text: &'a [u8]) -> Taken<'a> {
+    Taken {
+        topic: Topic::Keep,
+        text,
+    }
+}
+
+fn levels(net: u64, first: Level, second: Level) -> NamedCondition {
+    NamedCondition {
+        net,
+        form: Form::Levels(first, second),
+    }
+}
+
+fn equal(net: u64) -> NamedCondition {
+    NamedCondition {
+        net,
+        form: Form::Equal,
+    }
+}
+
+/// Conditions come in the order of the netlist's nets and of the bytes of their forms, and repeats
+/// are dropped, whatever the order of the words.
+#[test]
+fn keeps_conditions(rt: HostRuntime) -> Result<(), Fail> {
+    let named = [
+        keep(b"\\n=1 =0."),
+        keep(b"\\n=1==="),
+        keep(b"y=.1"),
+        keep(b"a[0]=10"),
+        Taken {
+            topic: Topic::At,
+            text: b"b=7",
+        },
+        keep(b"a[0]=10"),
+        keep(b"a[0]=.0"),
+        keep(b"a[0]=="),
+        keep(b"a[1]=01"),
+        keep(b"a[0]=1."),
+    ];
+    match kept(&rt, rt.alloc(), &named) {
+        Err(QuestionFault::NoNet(name)) => assert!(rt; name == b"\\n=1 ".as_slice()),
+        _ => assert!(rt; false),
+    }
+    let named = [
+        keep(b"\\n=1=0."),
+        keep(b"\\n=1=="),
+        keep(b"y=.1"),
+        keep(b"a[0]=10"),
+        Taken {
+            topic: Topic::At,
+            text: b"b=7",
+        },
+        keep(b"a[0]=10"),
+        keep(b"a[0]=.0"),
+        keep(b"a[0]=="),
+        keep(b"a[1]=01"),
+        keep(b"a[0]=1."),
+    ];
+    let wanted = [
+        levels(2, Level::Zero, Level::One),
+        levels(3, Level::X, Level::Zero),
+        levels(3, Level::One, Level::X),
+        levels(3, Level::One, Level::Zero),
+        equal(3),
+        levels(5, Level::X, Level::One),
+        levels(6, Level::Zero, Level::X),
+        equal(6),
+    ];
+    match kept(&rt, rt.alloc(), &named) {
+        Ok(asked) => {
+            assert!(rt; asked.keep.as_slice() == wanted.as_slice());
+            assert!(rt; asked.circuit.moments() == [0u64, 0, 7].as_slice());
+        }
+        Err(_) => assert!(rt; false),
+    }
+    match kept(&rt, rt.alloc(), &[]) {
+        Ok(asked) => assert!(rt; asked.keep.is_empty()),
+        Err(_) => assert!(rt; false),
+    }
+    Ok(())
+}
+
+/// The first word of a condition that says none is refused, before those behind it.
+#[test]
+fn refuses_conditions(rt: HostRuntime) -> Result<(), Fail> {
+    let bad: [&[u8]; 8] = [b"y=..", b"=01", b"==", b"y=0x", b"y=0", b"y", b"y=0=", b""];
+    for word in &bad {
+        let named = [keep(b"y=01"), keep(word), keep(b"z=01")];
+        match kept(&rt, rt.alloc(), &named) {
+            Err(QuestionFault::BadKeep(found)) => assert!(rt; found == *word),
+            _ => assert!(rt; false),
+        }
+    }
+    let named = [keep(b"y=01"), keep(b"a=01"), keep(b"y=..")];
+    match kept(&rt, rt.alloc(), &named) {
+        Err(QuestionFault::NoNet(name)) => assert!(rt; name == b"a".as_slice()),
+        _ => assert!(rt; false),
+    }
+    let named = [
+        keep(b"y=.."),
+        Taken {
+            topic: Topic::Pin,
+            text: b"c=1",
+        },
+    ];
+    match kept(&rt, rt.alloc(), &named) {
+        Err(QuestionFault::BadName(..)) => {}
         _ => assert!(rt; false),
     }
     Ok(())

@@ -7,6 +7,7 @@ use Rattle.td_circuit.specs.Settings.{Setting}
 use Rattle.td_domain.specs.declared.cubes.Trit.{Trit}
 use Rattle.td_domain.specs.Cubes.{weave}
 use Rattle.td_domain.specs.Admits.{Admitted}
+use Rattle.td_refutation.specs.Asking.{Asking}
 use Rattle.td_source.specs.Reads.{HasCircuit}
 use Rattle.td_source.specs.Faults.{IsSourceFault}
 use Rattle.td_inputs.specs.declared.labels.Label.{Label as CodeLabel}
@@ -19,6 +20,9 @@ use Rattle.td_request.specs.declared.question.Inputs.{Inputs}
 use Rattle.td_request.specs.declared.question.Question.{Question}
 use Rattle.td_question.specs.declared.fault.QuestionFault.{QuestionFault}
 use Rattle.td_question.specs.declared.fault.QuestionFault.TheVariants as fault
+use Rattle.td_question.specs.declared.keeping.KeepFault.{KeepFault}
+use Rattle.td_question.specs.declared.keeping.KeepFault.TheVariants as keep_fault
+use Rattle.td_question.specs.Keeping.{keep_texts, AreConditions, IsFirstFault}
 use Rattle.td_question.specs.declared.vector.VectorWord.{VectorWord}
 use Rattle.td_question.specs.declared.vector.VectorWord.TheVariants.{From, To, First, Second, Hold, At}
 use Rattle.td_question.specs.Vectors.{level_character, SpellsVector, SpellsLevels, AreTrits, IsMask, AreMomentsOf, VectorWords, IsFirstBad, GivesTrits, GivesMask, GivesMoments}
@@ -65,6 +69,15 @@ pub record IsAsked (text : List ℕ) (reading : Reading) (question : Question) (
   pub moments : AreMomentsOf (length setting.netlist.inputs) words.at setting.moments
   pub admits : Admits (length setting.netlist.inputs) words question.flips admit
 
+-- the words of conditions, in order
+abbrev pub keep_words : Inputs → List (List ℕ)
+keep_words inputs = keep_texts (taken_of inputs)
+
+-- What the words ask of a text, with the conditions that they say on nets of its netlist.
+pub record IsAskedKeeping (text : List ℕ) (reading : Reading) (question : Question) (setting : Setting) (asking : Asking) : Type 0 where
+  pub asked : IsAsked text reading question setting asking.admit
+  pub keep : AreConditions setting.netlist (keep_words question.inputs) asking.keep
+
 -- ---- why there is no question
 
 abbrev pub pair_words : Placed → VectorWords
@@ -102,9 +115,30 @@ IsFaultOf text reading inputs words_by fault.OutOfMemory = Unit {0}
 IsFaultOf text reading inputs words_by (fault.Source source) = IsSourceFault text reading source
 IsFaultOf text reading inputs words_by (fault.BadName wrong labels) = HasBadName text reading inputs wrong labels.items
 IsFaultOf text reading inputs words_by (fault.BadVector word) = HasBadWord text reading inputs words_by word
+IsFaultOf text reading inputs words_by (fault.BadKeep word) = ⊥
+IsFaultOf text reading inputs words_by (fault.NoNet name) = ⊥
 
+-- The text and the words about inputs ask something, and this is wrong with the first word of a
+-- condition that says none of the netlist.
+pub record HasBadCondition (text : List ℕ) (reading : Reading) (question : Question) (wrong : KeepFault) : Type 0 where
+  pub setting : Setting
+  pub admit : Admitted
+  pub asked : IsAsked text reading question setting admit
+  pub first : IsFirstFault setting.netlist (keep_words question.inputs) wrong
+
+-- Why there is no question: the fault of the text and the words about inputs, or, where they have
+-- none, that of the words of conditions.
 abbrev pub IsQuestionFault : List ℕ → Reading → Question → QuestionFault → Type 0
+IsQuestionFault text reading question (fault.BadKeep word) = HasBadCondition text reading question (keep_fault.Bad word)
+IsQuestionFault text reading question (fault.NoNet name) = HasBadCondition text reading question (keep_fault.NoNet name)
 IsQuestionFault text reading question found = IsFaultOf text reading question.inputs placed_words found
+
+-- this is wrong with the first word of a condition that says none of the netlist
+abbrev pub IsKeepFault : Netlist → List (List ℕ) → QuestionFault → Type 0
+IsKeepFault netlist words fault.OutOfMemory = Unit {0}
+IsKeepFault netlist words (fault.BadKeep word) = IsFirstFault netlist words (keep_fault.Bad word)
+IsKeepFault netlist words (fault.NoNet name) = IsFirstFault netlist words (keep_fault.NoNet name)
+IsKeepFault netlist words other = ⊥
 
 -- the netlist that is read of the text has no loop, and a word by place into which words by name were
 -- to be merged gives nothing for its inputs
@@ -119,6 +153,8 @@ IsFaultOfAny text reading inputs fault.OutOfMemory = Unit {0}
 IsFaultOfAny text reading inputs (fault.Source source) = IsSourceFault text reading source
 IsFaultOfAny text reading inputs (fault.BadName wrong labels) = HasBadName text reading inputs wrong labels.items
 IsFaultOfAny text reading inputs (fault.BadVector word) = HasUnread text reading inputs
+IsFaultOfAny text reading inputs (fault.BadKeep word) = ⊥
+IsFaultOfAny text reading inputs (fault.NoNet name) = ⊥
 
 -- ---- cubes and pairs
 

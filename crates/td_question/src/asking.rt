@@ -1,24 +1,29 @@
 //! What a request asks of a netlist's text.
 
-ghost use Rattle.std.specs.Prelude.{◌≡◌, ◌<◌, ◌^◌, length, option_map, IfOk, IfErr};
+ghost use Rattle.std.specs.Prelude.{◌≡◌, ◌<◌, ◌^◌, length, map, option_map, IfOk, IfErr};
 ghost use Rattle.td_circuit.specs.Numbering.{setting};
 ghost use Rattle.td_inputs.specs.Placings.{words_by_place};
-ghost use Rattle.td_question.specs.Asking.{most_flips, Admits, AreAdmitted, IsAsked, SayTogether, pair_words, placed_words, IsWordFault, IsQuestionFault};
+ghost use Rattle.td_inputs.specs.Scans.{taken_in};
+ghost use Rattle.td_question.specs.Asking.{most_flips, Admits, AreAdmitted, IsAsked, SayTogether, keep_words, pair_words, placed_words, IsWordFault, IsFaultOf, IsKeepFault, IsQuestionFault};
+ghost use Rattle.td_question.specs.Keeping.{AreConditions, keep_texts};
 ghost use Rattle.td_question.specs.Vectors.{IsFirstBad};
 ghost use Rattle.td_source.specs.Reads.{AreOutputsOf};
 
 use crate::fault::QuestionFault;
+use crate::keeping::{KeepFault, conditions_of};
 use crate::placed::{Placed, placed_on};
 use crate::timing::moments;
 use crate::vector::{VectorWord, given};
 use std::alloc::{AllocError, Global};
 use td_circuit::Circuit;
 use td_domain::{Admit, Cube, Trit};
-use td_inputs::ByPlace;
+use td_inputs::{ByPlace, Taken};
 use td_reading::Reading;
+use td_refutation::NamedCondition;
 use td_request::Question;
 
-/// What is asked: a circuit with its moments, and which pairs of its inputs are admitted.
+/// What is asked: a circuit with its moments, which pairs of its inputs are admitted, and what they
+/// keep.
 #[derive(Drop)]
 pub struct Asked {
     pub circuit: Circuit,
@@ -27,13 +32,16 @@ pub struct Asked {
     pub outputs: Option<Vec<u64>>,
     /// The words by place that say what all words about inputs say together.
     pub words: ByPlace,
+    /// Conditions on nets, rising.
+    pub keep: Vec<NamedCondition>,
 }
 
 /// What a question asks of a text.
 ///
 /// # Errors
 ///
-/// As of `placed_on`; or the first word that gives nothing for the inputs.
+/// As of `placed_on`; or the first word that gives nothing for the inputs; or, where there is none,
+/// the first word of a condition that says none of the circuit.
 pub fn question_of<'a, 'w>(
     alloc: Global,
     text: &'a [u8],
@@ -43,7 +51,26 @@ pub fn question_of<'a, 'w>(
     ensures asked { IfOk result (λ asked. IsAsked text.now reading.now question.now (setting asked.circuit) asked.admit) }
     ensures outputs { IfOk result (λ asked. AreOutputsOf text.now reading.now (option_map (λ numbers. numbers.items) asked.outputs)) }
     ensures together { IfOk result (λ asked. SayTogether asked.circuit.netlist question.now.inputs (words_by_place asked.words)) }
+    ensures keep { IfOk result (λ asked. AreConditions asked.circuit.netlist (keep_words question.now.inputs) asked.keep.items) }
     ensures fault { IfErr result (IsQuestionFault text.now reading.now question.now) }
+{
+    match pairs_of(alloc, text, reading, question) {
+        Ok(asked) => keeping(alloc, asked, question.inputs.named),
+        Err(fault) => Err(fault),
+    }
+}
+
+/// What a question asks of a text, without its conditions on nets.
+fn pairs_of<'a, 'w>(
+    alloc: Global,
+    text: &'a [u8],
+    reading: &Reading<'_>,
+    question: &Question<'w>,
+) -> Result<Asked, QuestionFault<'a, 'w>>
+    ensures asked { IfOk result (λ asked. IsAsked text.now reading.now question.now (setting asked.circuit) asked.admit) }
+    ensures outputs { IfOk result (λ asked. AreOutputsOf text.now reading.now (option_map (λ numbers. numbers.items) asked.outputs)) }
+    ensures together { IfOk result (λ asked. SayTogether asked.circuit.netlist question.now.inputs (words_by_place asked.words)) }
+    ensures fault { IfErr result (IsFaultOf text.now reading.now question.now.inputs placed_words) }
 {
     match placed_on(alloc, text, reading, &question.inputs) {
         Ok(placed) => {
@@ -79,8 +106,32 @@ fn asked_by<'a, 'w>(
             admit,
             outputs,
             words,
+            keep: Vec::new(alloc),
         }),
         Err(word) => Err(QuestionFault::BadVector(word)),
+    }
+}
+
+/// What is asked, with the conditions that words of options by name say.
+fn keeping<'a, 'w>(
+    alloc: Global,
+    asked: Asked,
+    named: &[Taken<'w>],
+) -> Result<Asked, QuestionFault<'a, 'w>>
+    ensures same { IfOk result (λ kept. (kept.circuit ≡ asked.circuit) × (kept.admit ≡ asked.admit) × (kept.outputs ≡ asked.outputs) × (kept.words ≡ asked.words)) }
+    ensures keep { IfOk result (λ kept. AreConditions kept.circuit.netlist (keep_texts (map taken_in named.now)) kept.keep.items) }
+    ensures fault { IfErr result (IsKeepFault asked.circuit.netlist (keep_texts (map taken_in named.now))) }
+{
+    match conditions_of(alloc, &asked.circuit, named)? {
+        Ok(keep) => Ok(Asked {
+            circuit: asked.circuit,
+            admit: asked.admit,
+            outputs: asked.outputs,
+            words: asked.words,
+            keep,
+        }),
+        Err(KeepFault::Bad(word)) => Err(QuestionFault::BadKeep(word)),
+        Err(KeepFault::NoNet(name)) => Err(QuestionFault::NoNet(name)),
     }
 }
 

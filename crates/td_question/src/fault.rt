@@ -6,13 +6,16 @@ use td_inputs::{Label, WordFault};
 use td_source::SourceFault;
 
 /// Why a text and words give no question: the text's fault, what is wrong with a word about inputs
-/// by name, for inputs that are called so, or a word that gives nothing for the netlist's inputs.
+/// by name, for inputs that are called so, a word that gives nothing for the netlist's inputs, a word
+/// that is no condition, or one that names no net.
 #[derive(Drop)]
 pub enum QuestionFault<'a, 'w> {
     OutOfMemory,
     Source(SourceFault<'a>),
     BadName(WordFault<'w>, Vec<Label>),
     BadVector(VectorWord),
+    BadKeep(&'w [u8]),
+    NoNet(&'w [u8]),
 }
 
 impl<'a, 'w> From<AllocError> for QuestionFault<'a, 'w> {

@@ -2,14 +2,18 @@
 //!
 //!     text ──▶ netlist ──▶ circuit, with moments
 //!     words, by place and by name ──▶ admitted pairs of its inputs
+//!     words of conditions, by name ──▶ conditions on its nets, by number
 #![tactic(auto)]
 
 mod asking;
 mod cube;
 mod fault;
+mod keeping;
 mod names;
+mod net_names;
 mod pair;
 mod placed;
+mod rising;
 pub mod timing;
 pub mod vector;
 

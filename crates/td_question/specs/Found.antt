@@ -1,0 +1,85 @@
+-- Internal: conditions as they are found, by the names of nets and in order.
+use Rattle.std.specs.Prelude.{◌≡◌, ◌≢◌, ◌↔◌, ℕ, ◌+◌, ◌*◌, ◌<◌, ◌≤◌, nat_lt, Bool, true, List, [], ◌∷◌, ◌++◌, length, slice_index_or, position, Option, None, Some, if◌then◌else◌}
+use Rattle.std.specs.List.{Contains}
+use Rattle.std.specs.Str.{bytes_eq}
+use Rattle.td_nets.specs.Netlist.{Name, Named, Netlist}
+use Rattle.td_nets.specs.Printed.{printed}
+use Rattle.td_spans.specs.declared.condition.Form.{Form}
+use Rattle.td_spans.specs.declared.condition.Form.TheVariants.{Levels, Equal}
+use Rattle.td_refutation.specs.declared.conditions.NamedCondition.{NamedCondition}
+use Rattle.td_refutation.specs.Asking.{net_at}
+use Rattle.td_certificate.specs.Text.{level_byte}
+use Rattle.td_certificate.specs.Accepts.{form_order, are_fit}
+use Rattle.td_question.specs.Keeping.{is_asking, HasParts, NoneBefore, IsFirstNet, HasNoNet, SaysCondition}
+
+-- these characters ask for the levels of this form, of which not both may be any
+abbrev pub AreLevels : ℕ → ℕ → Form → Type 0
+AreLevels first second (Levels before after) = (first ≡ level_byte before) × (second ≡ level_byte after) × (is_asking (Levels before after) ≡ true)
+AreLevels first second Equal = ⊥
+
+-- the names of the words that name a net
+abbrev pub AreNames : List (List ℕ) → List (List ℕ) → Type 0
+AreNames words names = (word name : List ℕ) (form : Form) → Contains words word → HasParts word name form → Contains names name
+
+-- ---- nets by their names
+
+abbrev pub place_in : List (List ℕ) → List ℕ → Option ℕ
+place_in names name = position (bytes_eq name) names
+
+abbrev pub number_at : List (Option ℕ) → Option ℕ → Option ℕ
+number_at numbers None = None
+number_at numbers (Some place) = slice_index_or numbers place None
+
+-- the number that stands for a name
+abbrev pub number_in : List (List ℕ) → List (Option ℕ) → List ℕ → Option ℕ
+number_in names numbers name = number_at numbers (place_in names name)
+
+-- the net with this number is printed so
+abbrev pub IsPrinted : Netlist → ℕ → List ℕ → Type 0
+IsPrinted netlist number text = (net : Name) × (net_at netlist number ≡ Some (Named net)) × (printed net ≡ text)
+
+abbrev pub or_number : Option ℕ → ℕ → Option ℕ
+or_number None number = Some number
+or_number (Some earlier) number = Some earlier
+
+-- this number stands for the name, where none did, and all others are the same
+pub record IsNoted (names : List (List ℕ)) (text : List ℕ) (number : ℕ) (old new : List (Option ℕ)) : Type 0 where
+  pub count : length new ≡ length old
+  pub here : Contains names text → number_in names new text ≡ or_number (number_in names old text) number
+  pub others : (name : List ℕ) → name ≢ text → number_in names new name ≡ number_in names old name
+
+-- the number of the first net that is printed so, if there is one
+abbrev pub IsFound : Netlist → List ℕ → Option ℕ → Type 0
+IsFound netlist name None = HasNoNet netlist name
+IsFound netlist name (Some number) = IsFirstNet netlist name number
+
+-- for each name the number of the first net that is printed so, if there is one
+abbrev pub AreFound : Netlist → List (List ℕ) → List (Option ℕ) → Type 0
+AreFound netlist names numbers = (name : List ℕ) → Contains names name → IsFound netlist name (number_in names numbers name)
+
+-- ---- conditions in order
+
+-- the condition that each word says
+abbrev pub AreSaid : Netlist → List (List ℕ) → List NamedCondition → Type 0
+AreSaid netlist [] [] = Unit {0}
+AreSaid netlist (word ∷ words) (condition ∷ said) = SaysCondition netlist word condition × AreSaid netlist words said
+AreSaid netlist words said = ⊥
+
+-- a condition's place among others, by its net, and then by the bytes of its form
+abbrev pub condition_order : NamedCondition → ℕ
+condition_order condition = 65536 * condition.net + form_order condition.form
+
+-- the condition after these, if it stands behind the last one
+abbrev pub with_next : List NamedCondition → NamedCondition → List NamedCondition
+with_next [] next = next ∷ []
+with_next (last ∷ []) next = if nat_lt (condition_order last) (condition_order next) then last ∷ next ∷ [] else last ∷ []
+with_next (this ∷ that ∷ kept) next = this ∷ with_next (that ∷ kept) next
+
+-- each condition is on an input or a gate's output
+abbrev pub AreOnNets : ℕ → List NamedCondition → Type 0
+AreOnNets count said = (condition : NamedCondition) → Contains said condition → (2 ≤ condition.net) × (condition.net < count)
+
+-- the same conditions, each once, in the order of a certificate
+pub record AreInOrder (said keep : List NamedCondition) : Type 0 where
+  pub rising : (count : ℕ) → AreOnNets count said → are_fit count keep ≡ true
+  pub same : (condition : NamedCondition) → Contains keep condition ↔ Contains said condition
