@@ -5,6 +5,8 @@ pub mod Ways
 pub mod LatestBound
 pub mod Judged
 pub mod Searched
+pub mod KeptOnes
+pub mod Chosen
 pub mod Listing
 pub mod Zips
 pub mod Whole

@@ -63,7 +63,7 @@ same_length (first ∷ second ∷ rest) [] after allows = absurd allows
 same_length (first ∷ second ∷ rest) (a ∷ before) [] allows = absurd allows
 same_length (first ∷ second ∷ rest) (a ∷ before) (b ∷ after) allows = ap suc (same_length rest before after allows.2)
 
-delay_fits : (asked : Problem) (pair : Pair) (delay : ℕ) → has_delay asked pair delay
+pub delay_fits : (asked : Problem) (pair : Pair) (delay : ℕ) → has_delay asked pair delay
     → (length pair.first ≡ length asked.setting.netlist.inputs) × (length pair.second ≡ length asked.setting.netlist.inputs)
 delay_fits asked pair delay has =
     let first : length pair.first ≡ length asked.setting.netlist.inputs =
@@ -82,12 +82,12 @@ pair_fits method asked budget found is = answer_fits asked budget found (outcome
 
 -- ---- causes
 
-abbrev cause_of : SearchCause → Cause
+abbrev pub cause_of : SearchCause → Cause
 cause_of cause.Budget = why.Budget
 cause_of cause.Memory = why.Memory
 cause_of cause.Time = why.Time
 
-cause_is : (found : SearchCause) → cause_line found ≡ line.Cause (cause_of found)
+pub cause_is : (found : SearchCause) → cause_line found ≡ line.Cause (cause_of found)
 cause_is cause.Budget = refl
 cause_is cause.Memory = refl
 cause_is cause.Time = refl

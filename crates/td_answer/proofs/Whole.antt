@@ -108,14 +108,14 @@ same_admit this that pins held flips =
     by_pins ∙ by_held ∙ by_flips
 
 -- a whole of the pins and the question that are asked admits what is asked
-pub admits_asked : (parts : List Certificate) (moments : List ℕ) (admit : Admitted) (whole : Certificate) → IsJoined parts admit.pins whole
-    → AsksSame moments admit whole.question → whole.question.admit ≡ admit
-admits_asked parts moments admit whole joined same = same_admit whole.question.admit admit joined.pins_are same.held same.flips
+pub admits_asked : (parts : List Certificate) (moments : List ℕ) (asking : Asking) (whole : Certificate) → IsJoined parts asking.admit.pins whole
+    → AsksSame moments asking whole.question → whole.question.admit ≡ asking.admit
+admits_asked parts moments asking whole joined same = same_admit whole.question.admit asking.admit joined.pins_are same.held same.flips
 
 -- why the parts aren't joined
-pub unjoined_for : (names : List (List ℕ)) (parts : List Certificate) (moments : List ℕ) (admit : Admitted) (fault : JoinFault ℕ) (reason : Refusal)
-    → IsJoinFault parts admit.pins fault → IsOfUnjoined names fault reason → IsUnjoinedFor names parts moments admit reason
-unjoined_for names parts moments admit fault reason is (inl memory) =
-    subst (λ (r : Refusal). IsUnjoinedFor names parts moments admit r) (sym memory) tt
-unjoined_for names parts moments admit fault reason is (inr told) =
-    subst (λ (r : Refusal). IsUnjoinedFor names parts moments admit r) (sym told.is) (fault, told.reported, is, told.named)
+pub unjoined_for : (names : List (List ℕ)) (parts : List Certificate) (moments : List ℕ) (asking : Asking) (fault : JoinFault ℕ) (reason : Refusal)
+    → IsJoinFault parts asking.admit.pins fault → IsOfUnjoined names fault reason → IsUnjoinedFor names parts moments asking reason
+unjoined_for names parts moments asking fault reason is (inl memory) =
+    subst (λ (r : Refusal). IsUnjoinedFor names parts moments asking r) (sym memory) tt
+unjoined_for names parts moments asking fault reason is (inr told) =
+    subst (λ (r : Refusal). IsUnjoinedFor names parts moments asking r) (sym told.is) (fault, told.reported, is, told.named)

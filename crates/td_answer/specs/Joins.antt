@@ -5,13 +5,12 @@ use Rattle.std.specs.List.{AllZip}
 use Rattle.td_nets.specs.Netlist.{Netlist}
 use Rattle.td_reading.specs.declared.reading.Reading.{Reading}
 use Rattle.td_source.specs.Reads.{HasCircuit}
-use Rattle.td_domain.specs.Admits.{Admitted}
 use Rattle.td_certificate.specs.declared.certificate.Certificate.{Certificate}
 use Rattle.td_certificate.specs.declared.certificate.Claim.{Claim}
 use Rattle.td_certificate.specs.declared.fault.CertFaultKind.TheVariants as certificate_kind
 use Rattle.td_circuit.specs.Settings.{Setting}
 use Rattle.td_refutation.specs.Asking.{Asking}
-use Rattle.td_certificate.specs.Questions.{asking_of}
+use Rattle.td_certificate.specs.Questions.{asking_of, keep_by}
 use Rattle.td_certificate.specs.Accepts.{Accepts, AsksNone, IsOfSize, setting_of}
 use Rattle.td_certificate.specs.Faults.{IsFault}
 use Rattle.td_certificate.specs.Spelling.{Spells, HasSpelling, version_in}
@@ -22,7 +21,7 @@ use Rattle.td_join.specs.declared.fault.JoinFault.TheVariants as fault
 use Rattle.td_join.specs.Joining.{IsJoined}
 use Rattle.td_join.specs.Faults.{IsJoinFault, renamed}
 use Rattle.td_request.specs.declared.request.Join.{Join}
-use Rattle.td_question.specs.Asking.{IsAsked, IsQuestionFault}
+use Rattle.td_question.specs.Asking.{IsAskedKeeping, IsQuestionFault}
 use Rattle.td_answer.specs.Heads.{head_lines}
 use Rattle.td_answer.specs.Lines.{whole_lines}
 use Rattle.td_answer.specs.Claims.{question_lines}
@@ -82,8 +81,8 @@ pub record HasNoPart (text : List ℕ) (reading : Reading) (netlist : Netlist) (
 
 -- the words ask about these pairs of the text's netlist, which has no loop, with these moments, and
 -- the texts tell certificates about it
-pub record IsToJoin (text : List ℕ) (reading : Reading) (asked : Join) (texts : List (List ℕ)) (setting : Setting) (admit : Admitted) (parts : List Certificate) : Type 0 where
-  pub asks : IsAsked text reading asked.question setting admit
+pub record IsToJoin (text : List ℕ) (reading : Reading) (asked : Join) (texts : List (List ℕ)) (setting : Setting) (asking : Asking) (parts : List Certificate) : Type 0 where
+  pub asks : IsAskedKeeping text reading asked.question setting asking
   pub are_parts : AreParts text reading setting.netlist asked.check asked.parts texts parts
 
 -- the most nodes of a whole
@@ -102,17 +101,18 @@ joined_lines netlist checked whole =
     (head_lines netlist ++ whole_lines checked whole.claim (length whole.tree)) ++ question_lines (version_in whole) whole.question
 
 -- The parts are joined into one certificate of the question that the words ask, its pins, held
--- inputs, flips and moments, all of it. It has a text and not too many nodes, and the report tells
+-- inputs, flips, moments and conditions, all of it. It has a text and not too many nodes, and the report tells
 -- its time and its pair, as that of a search does, or that no pair is admitted, the number of its
 -- nodes, and its question. Where each part is accepted of a netlist, so is the whole. Where the
 -- parts are checked, what it claims is true; where they aren't, its line is `unchecked`.
 pub record IsJoinedTo (text : List ℕ) (reading : Reading) (asked : Join) (texts : List (List ℕ)) (outcome : Outcome) (whole : Certificate) : Type 0 where
   pub setting : Setting
-  pub admit : Admitted
+  pub asking : Asking
   pub parts : List Certificate
-  pub to_join : IsToJoin text reading asked texts setting admit parts
-  pub joined : IsJoined parts admit.pins whole
-  pub admits : whole.question.admit ≡ admit
+  pub to_join : IsToJoin text reading asked texts setting asking parts
+  pub joined : IsJoined parts asking.admit.pins whole
+  pub admits : whole.question.admit ≡ asking.admit
+  pub keeps : keep_by whole.question.terms ≡ asking.keep
   pub dated : whole.question.moments ≡ setting.moments
   pub has_text : HasSpelling whole
   pub few : length whole.tree ≤ most_nodes
@@ -133,24 +133,25 @@ IsTrueJoin text reading asked texts outcome = IsJoinedInto text reading asked te
 
 -- why parts aren't joined into a certificate about these pairs, with these moments: the fault, with
 -- the names of the files at its places; or what they are joined into has too many nodes, or holds
--- other inputs, or has other flips or moments
-abbrev pub IsUnjoinedFor : List (List ℕ) → List Certificate → List ℕ → Admitted → Refusal → Type 0
-IsUnjoinedFor names parts moments admit (refusal.NotJoined told) =
-    (reported : JoinFault ℕ) × (reported ≢ fault.OutOfMemory) × IsJoinFault parts admit.pins reported
+-- other inputs, or has other flips, moments or conditions
+abbrev pub IsUnjoinedFor : List (List ℕ) → List Certificate → List ℕ → Asking → Refusal → Type 0
+IsUnjoinedFor names parts moments asking (refusal.NotJoined told) =
+    (reported : JoinFault ℕ) × (reported ≢ fault.OutOfMemory) × IsJoinFault parts asking.admit.pins reported
     × (renamed (λ name. name.now) told ≡ renamed (λ place. get_or names place []) reported)
-IsUnjoinedFor names parts moments admit refusal.TooLong = (whole : Certificate) × IsJoined parts admit.pins whole × (most_nodes < length whole.tree)
-IsUnjoinedFor names parts moments admit (refusal.OtherQuestion found) =
-    (whole : Certificate) × IsJoined parts admit.pins whole × DiffersIn moments admit whole.question found
-IsUnjoinedFor names parts moments admit refusal.OutOfMemory = Unit {0}
-IsUnjoinedFor names parts moments admit other = ⊥
+IsUnjoinedFor names parts moments asking refusal.TooLong =
+    (whole : Certificate) × IsJoined parts asking.admit.pins whole × (most_nodes < length whole.tree)
+IsUnjoinedFor names parts moments asking (refusal.OtherQuestion found) =
+    (whole : Certificate) × IsJoined parts asking.admit.pins whole × DiffersIn moments asking whole.question found
+IsUnjoinedFor names parts moments asking refusal.OutOfMemory = Unit {0}
+IsUnjoinedFor names parts moments asking other = ⊥
 
 -- the parts aren't joined
 pub record IsNotJoined (text : List ℕ) (reading : Reading) (asked : Join) (texts : List (List ℕ)) (reason : Refusal) : Type 0 where
   pub setting : Setting
-  pub admit : Admitted
+  pub asking : Asking
   pub parts : List Certificate
-  pub to_join : IsToJoin text reading asked texts setting admit parts
-  pub unjoined : IsUnjoinedFor asked.parts parts setting.moments admit reason
+  pub to_join : IsToJoin text reading asked texts setting asking parts
+  pub unjoined : IsUnjoinedFor asked.parts parts setting.moments asking reason
 
 -- why no question is asked: the netlist's text, or the words
 abbrev pub IsUnasked : List ℕ → Reading → Join → Refusal → Type 0

@@ -12,6 +12,9 @@ pub mod Claims
 pub mod Verdicts
 pub mod Sentences
 pub mod Certified
+pub mod Kept
+pub mod KeptTerms
+pub mod Conditions
 pub mod Searches
 pub mod Tables
 pub mod Simulations

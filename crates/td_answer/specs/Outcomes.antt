@@ -10,13 +10,12 @@ use Rattle.td_request.specs.declared.request.Command.{Command}
 use Rattle.td_request.specs.declared.request.Command.TheVariants as command
 use Rattle.td_request.specs.declared.request.Request.{Request}
 use Rattle.td_answer.specs.Bounds.{IsTrueBound, IsRefusedBound}
-use Rattle.td_answer.specs.Certified.{IsCertified}
+use Rattle.td_answer.specs.Conditions.{IsTrueSearch, IsCertifiedFor}
 use Rattle.td_answer.specs.Infos.{IsTrueInfo, IsRefusedInfo}
 use Rattle.td_answer.specs.Joins.{texts_of, IsTrueJoin, IsRefusedJoin}
 use Rattle.td_answer.specs.Parts.{IsTrueParts, IsRefusedParts}
 use Rattle.td_answer.specs.Paths.{IsTruePath, IsRefusedPath}
 use Rattle.td_answer.specs.Searches.{IsRefusedSearch}
-use Rattle.td_answer.specs.Sentences.{IsTrueWorst}
 use Rattle.td_answer.specs.Simulations.{IsTrueSim, IsRefusedSim}
 use Rattle.td_answer.specs.Tables.{IsTrueTable}
 use Rattle.td_answer.specs.Verdicts.{IsTrueCheck, IsRefusedCheck}
@@ -41,11 +40,11 @@ IsRefusedChecked text reading asked (Some spelled) reason = IsRefusedCheck text 
 
 -- for all outputs at once, or for each alone
 abbrev pub IsSearchedTrue : Bool → List ℕ → Reading → Search → Outcome → Type 0
-IsSearchedTrue false text reading asked outcome = IsTrueWorst text reading asked outcome
+IsSearchedTrue false text reading asked outcome = IsTrueSearch text reading asked outcome
 IsSearchedTrue true text reading asked outcome = IsTrueTable text reading asked outcome
 
 abbrev pub IsCertifiedSearch : Bool → List ℕ → Reading → Search → Outcome → Type 0
-IsCertifiedSearch false text reading asked outcome = IsCertified text reading asked.question outcome.report outcome.certificate outcome.status
+IsCertifiedSearch false text reading asked outcome = IsCertifiedFor text reading asked.question outcome.report outcome.certificate outcome.status
 IsCertifiedSearch true text reading asked outcome = outcome.certificate ≡ None
 
 -- ---- requests

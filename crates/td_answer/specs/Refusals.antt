@@ -63,6 +63,12 @@ input_text (Some label) = label.name
 unfoldable pub bad_text : Topic → List ℕ → List ℕ
 bad_text topic word = codes "bad " ++ called topic ++ word
 
+unfoldable pub bad_keep_text : List ℕ → List ℕ
+bad_keep_text word = codes "bad keep " ++ word
+
+unfoldable pub no_net_text : List ℕ → List ℕ
+no_net_text name = codes "no net " ++ name
+
 unfoldable pub no_input_text : List ℕ → List ℕ
 no_input_text name = codes "no input " ++ name
 
@@ -107,6 +113,8 @@ question_text question.OutOfMemory = codes "out of memory"
 question_text (question.Source fault) = source_text fault
 question_text (question.BadName fault labels) = word_text (fault_in fault) (map label_in labels.items)
 question_text (question.BadVector word) = vector_word word
+question_text (question.BadKeep word) = bad_keep_text word.now
+question_text (question.NoNet name) = no_net_text name.now
 
 abbrev pub search_text : WorstFault → List ℕ
 search_text (worst.Search search.NoPair) = codes "no admitted pair"
@@ -180,6 +188,7 @@ abbrev pub other_question_text : Difference → List ℕ
 other_question_text difference.Hold = codes "parts of another question: other inputs held"
 other_question_text difference.Flips = codes "parts of another question: other flips"
 other_question_text difference.Moments = codes "parts of another question: other input times"
+other_question_text difference.Conditions = codes "parts of another question: other conditions"
 
 -- ---- the sentence
 

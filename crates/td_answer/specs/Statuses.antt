@@ -34,6 +34,8 @@ question_status question.OutOfMemory = Device
 question_status (question.Source fault) = source_status fault
 question_status (question.BadName fault labels) = BadCommand
 question_status (question.BadVector word) = BadCommand
+question_status (question.BadKeep word) = BadCommand
+question_status (question.NoNet name) = BadCommand
 
 abbrev pub search_status : WorstFault → Status
 search_status (worst.Search search.OutOfMemory) = Device

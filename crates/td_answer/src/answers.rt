@@ -69,7 +69,7 @@ pub(crate) fn vector_of(alloc: Global, bits: &[bool]) -> Result<Vector, AllocErr
 }
 
 /// Appends the lines of an exact answer.
-fn push_exact(
+pub(crate) fn push_exact(
     alloc: Global,
     report: &mut Report,
     time: u64,
@@ -91,7 +91,7 @@ fn push_exact(
 }
 
 /// The line that says why an answer isn't exact.
-fn cause_line(cause: Cause) -> Line
+pub(crate) fn cause_line(cause: Cause) -> Line
     ensures { result ≡ cause_line cause }
 {
     match cause {
@@ -102,7 +102,7 @@ fn cause_line(cause: Cause) -> Line
 }
 
 /// Appends the lines of the answer of a search that was cut short.
-fn push_between(
+pub(crate) fn push_between(
     alloc: Global,
     report: &mut Report,
     low: u64,

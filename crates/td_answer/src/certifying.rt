@@ -42,7 +42,7 @@ fn are_fit(numbers: &[u64]) -> bool
 }
 
 /// The numbers of the outputs that are asked about: none where all are. The error is out of memory.
-fn outputs_of(outputs: Option<Vec<u64>>) -> Result<Option<Vec<u64>>, AllocError>
+pub(crate) fn outputs_of(outputs: Option<Vec<u64>>) -> Result<Option<Vec<u64>>, AllocError>
     ensures is { IfOk result (λ found. found ≡ outputs) }
     ensures few { IfOk result (λ found. AreOutputs (option_map (λ numbers. numbers.items) found) × AreFew (option_map (λ numbers. numbers.items) found)) }
 {

@@ -4,8 +4,8 @@ ghost use Rattle.std.specs.Prelude.{◌≡◌, ◌↔◌, IsTrue, IfNone, IfSome
 ghost use Rattle.td_answer.specs.Differences.{AsksSame, DiffersIn};
 
 use td_certificate::Question;
-use td_circuit::Circuit;
-use td_domain::Admit;
+use td_question::Asked;
+use td_refutation::NamedCondition;
 
 /// In what parts are of another question than the one that is asked, but for pins.
 #[derive(Clone, Copy, Debug, PartialEq, Eq, Drop)]
@@ -16,6 +16,8 @@ pub enum Difference {
     Flips,
     /// Inputs change at other moments.
     Moments,
+    /// Pairs keep other conditions.
+    Conditions,
 }
 
 /// Whether the same inputs are held.
@@ -25,11 +27,24 @@ fn hold_same(this: &[bool], that: &[bool]) -> bool
     this == that
 }
 
-/// In what a question differs from that about a circuit and these pairs, if it does, but for pins.
-pub(crate) fn differing(circuit: &Circuit, admit: &Admit, question: &Question) -> Option<Difference>
-    ensures same { IfNone result (AsksSame circuit.now.moments admit.now question.now) }
-    ensures differs { IfSome result (DiffersIn circuit.now.moments admit.now question.now) }
+/// Whether these are the same conditions.
+fn keep_same(this: &[NamedCondition], that: &[NamedCondition]) -> bool
+    ensures { IsTrue result ↔ (this.now ≡ that.now) }
 {
+    this == that
+}
+
+/// In what a question differs from the one that is asked, if it does, but for pins.
+pub(crate) fn differing(asked: &Asked, question: &Question) -> Option<Difference>
+    ensures same { IfNone result (AsksSame asked.now.circuit.moments (record { admit = asked.now.admit; keep = asked.now.keep.items }) question.now) }
+    ensures differs { IfSome result (DiffersIn asked.now.circuit.moments (record { admit = asked.now.admit; keep = asked.now.keep.items }) question.now) }
+{
+    let Asked {
+        circuit,
+        admit,
+        keep,
+        ..
+    } = asked;
     let found = question.admit();
     if !hold_same(found.held(), admit.held()) {
         return Some(Difference::Hold);
@@ -39,6 +54,9 @@ pub(crate) fn differing(circuit: &Circuit, admit: &Admit, question: &Question) -
     }
     if question.moments() != circuit.moments() {
         return Some(Difference::Moments);
+    }
+    if !keep_same(question.keep(), keep) {
+        return Some(Difference::Conditions);
     }
     None
 }

@@ -19,10 +19,8 @@ use crate::refusal::Refusal;
 use crate::status::Status;
 use std::alloc::Global;
 use td_certificate::Certificate;
-use td_circuit::Circuit;
-use td_domain::Admit;
 use td_join::{JoinFault, join_in};
-use td_question::question_of;
+use td_question::{Asked, question_of};
 use td_reading::Reading;
 use td_request::{Join, MOST_NODES};
 
@@ -81,30 +79,29 @@ fn unjoined<'n, 'w>(fault: JoinFault<usize>, names: &[&'w str]) -> Refusal<'n, '
     Refusal::NotJoined(named(fault, names))
 }
 
-/// What parts are joined into, in the files of these names: a certificate of the question about a
-/// circuit and these pairs.
+/// What parts are joined into, in the files of these names: a certificate of the question that is
+/// asked.
 fn whole_of<'n, 'w>(
     alloc: Global,
     parts: Vec<Certificate>,
-    circuit: &Circuit,
-    admit: &Admit,
+    asked: &Asked,
     names: &[&'w str],
 ) -> Result<Certificate, Refusal<'n, 'w>>
-    ensures joined { IfOk result (IsJoined parts.items admit.now.pins) }
-    ensures asked { IfOk result (λ whole. AsksSame circuit.now.moments admit.now whole.question) }
+    ensures joined { IfOk result (IsJoined parts.items asked.now.admit.pins) }
+    ensures asked { IfOk result (λ whole. AsksSame asked.now.circuit.moments (record { admit = asked.now.admit; keep = asked.now.keep.items }) whole.question) }
     ensures accepted { IfOk result (λ whole. (any : Netlist) → All (Accepts any) parts.items → Accepts any whole) }
     ensures spelled { IfOk result (λ whole. All HasSpelling parts.items → HasSpelling whole) }
     ensures few { IfOk result (λ whole. length whole.tree ≤ most_nodes) }
-    ensures refusal { IfErr result (IsUnjoinedFor (map (λ name. name.now) names.now) parts.items circuit.now.moments admit.now) }
+    ensures refusal { IfErr result (IsUnjoinedFor (map (λ name. name.now) names.now) parts.items asked.now.circuit.moments (record { admit = asked.now.admit; keep = asked.now.keep.items })) }
 {
-    let whole = match join_in(alloc, parts, admit.pins()) {
+    let whole = match join_in(alloc, parts, asked.admit.pins()) {
         Ok(whole) => whole,
         Err(fault) => return Err(unjoined(fault, names)),
     };
     if whole.tree.nodes().len() > MOST_NODES as usize {
         return Err(Refusal::TooLong);
     }
-    match differing(circuit, admit, &whole.question) {
+    match differing(asked, &whole.question) {
         None => Ok(whole),
         Some(difference) => Err(Refusal::OtherQuestion(difference)),
     }
@@ -136,7 +133,7 @@ pub(crate) fn join<'n, 'w>(
         names,
         certificates,
     )?;
-    let whole = whole_of(alloc, parts, &sought.circuit, &sought.admit, names)?;
+    let whole = whole_of(alloc, parts, &sought, names)?;
     let report = joined(alloc, &sought.circuit, asked.check, &whole)?;
     Ok(Outcome {
         report,

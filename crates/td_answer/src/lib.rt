@@ -20,6 +20,8 @@ mod head;
 mod info;
 mod join;
 mod joined;
+mod kept;
+mod kept_certificate;
 mod names;
 mod outcome;
 mod parts;

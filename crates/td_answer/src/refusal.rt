@@ -103,6 +103,8 @@ fn question_status(fault: &QuestionFault<'_, '_>) -> Status
         QuestionFault::Source(fault) => source_status(fault),
         QuestionFault::BadName(..) => Status::BadCommand,
         QuestionFault::BadVector(_) => Status::BadCommand,
+        QuestionFault::BadKeep(_) => Status::BadCommand,
+        QuestionFault::NoNet(_) => Status::BadCommand,
     }
 }
 

@@ -63,6 +63,8 @@ fn question(out: &mut Text, fault: &QuestionFault<'_, '_>) -> Result<(), AllocEr
         QuestionFault::Source(fault) => source(out, fault),
         QuestionFault::BadName(fault, labels) => words::name(out, *fault, labels),
         QuestionFault::BadVector(word) => words::vector(out, *word),
+        QuestionFault::BadKeep(word) => words::bad_keep(out, word),
+        QuestionFault::NoNet(name) => words::no_net(out, name),
     }
 }
 

@@ -66,5 +66,6 @@ pub(crate) fn other_question(out: &mut Text, difference: Difference) -> Result<(
         Difference::Hold => out.push(b"parts of another question: other inputs held"),
         Difference::Flips => out.push(b"parts of another question: other flips"),
         Difference::Moments => out.push(b"parts of another question: other input times"),
+        Difference::Conditions => out.push(b"parts of another question: other conditions"),
     }
 }

@@ -3,7 +3,7 @@
 ghost use Rattle.std.specs.Prelude.{◌≡◌, ◌++◌, map, slice_get, OnOk};
 ghost use Rattle.td_inputs.specs.Labels.{label_in};
 ghost use Rattle.td_inputs.specs.Readings.{fault_in};
-ghost use Rattle.td_answer.specs.Refusals.{vector_word, called, bad_text, no_input_text, clash_text, input_text, word_text};
+ghost use Rattle.td_answer.specs.Refusals.{vector_word, called, bad_text, bad_keep_text, no_input_text, no_net_text, clash_text, input_text, word_text};
 
 use std::alloc::AllocError;
 use td_inputs::{Label, Topic, WordFault};
@@ -68,6 +68,22 @@ fn clash(out: &mut Text, topic: Topic, word: &[u8], input: &[u8]) -> Result<(), 
     out.push(word)?;
     out.push(b": another argument differs for input ")?;
     out.push(input)
+}
+
+/// That a word is no condition.
+pub(crate) fn bad_keep(out: &mut Text, word: &[u8]) -> Result<(), AllocError>
+    ensures { OnOk result (out.new ≡ out.old ++ bad_keep_text word.now) }
+{
+    out.push(b"bad keep ")?;
+    out.push(word)
+}
+
+/// That a condition names no net.
+pub(crate) fn no_net(out: &mut Text, name: &[u8]) -> Result<(), AllocError>
+    ensures { OnOk result (out.new ≡ out.old ++ no_net_text name.now) }
+{
+    out.push(b"no net ")?;
+    out.push(name)
 }
 
 /// What is wrong with a word by name, for inputs that are called so.

@@ -12,14 +12,14 @@ ghost use Rattle.td_answer.specs.Runs.{RunsPair, TellsPair};
 ghost use Rattle.td_answer.specs.Dumps.{IsDumpWhere};
 ghost use Rattle.td_answer.specs.Additions.{AddsLines};
 ghost use Rattle.td_answer.specs.Certificates.{read_by, certificate_in, CanBeTold};
-ghost use Rattle.td_answer.specs.Sentences.{IsTrueWorst};
-ghost use Rattle.td_answer.specs.Certified.{IsCertified};
+ghost use Rattle.td_answer.specs.Conditions.{IsTrueSearch, IsCertifiedFor};
 ghost use Rattle.td_answer.specs.Searches.{IsRefusedSearch};
 ghost use Rattle.td_answer.specs.Writing.{CanBeWritten};
 
 use crate::answers::{ending_of, pair_in, report_of};
 use crate::beside::push_run;
 use crate::certifying::{Read, certificate};
+use crate::kept::worst_kept;
 use crate::outcome::{Outcome, Waves};
 use crate::refusal::Refusal;
 use crate::runs::run_of;
@@ -77,7 +77,7 @@ pub(crate) fn effort_of(effort: &td_request::Effort) -> TimedEffort
 }
 
 /// The waves of a pair's run, where they are asked for.
-fn dump_of(
+pub(crate) fn dump_of(
     alloc: Global,
     circuit: Circuit,
     pair: &Pair,
@@ -162,14 +162,17 @@ pub(crate) fn worst<'n, 'w, W: Watch, R: Threads + Wait + Clock + Sync>(
     search: &Search<'w>,
     watch: &mut W,
 ) -> Result<Outcome, Refusal<'n, 'w>>
-    ensures says { IfOk result (IsTrueWorst text.now reading.now search.now) }
-    ensures certified { IfOk result (λ outcome. IsCertified text.now reading.now search.now.question outcome.report outcome.certificate outcome.status) }
+    ensures says { IfOk result (IsTrueSearch text.now reading.now search.now) }
+    ensures certified { IfOk result (λ outcome. IsCertifiedFor text.now reading.now search.now.question outcome.report outcome.certificate outcome.status) }
     ensures written { IfOk result CanBeWritten }
     ensures refusal { IfErr result (IsRefusedSearch text.now reading.now search.now) }
     ensures reported { (watch.new ≡ watch.old)
         ⊎ ((asked : Problem) × IsAsked text.now reading.now search.now.question asked.setting asked.admit × W.reported asked watch.old watch.new) }
 {
     let asked = question_of(alloc, text, reading, &search.question)?;
+    if !asked.keep.is_empty() {
+        return worst_kept(rt, alloc, asked, text, reading, search);
+    }
     let method = method_of(search.strategy);
     let effort = effort_of(&search.effort);
     let answer = td_worst::worst(

@@ -6,7 +6,7 @@ use crate::endings::cut_short;
 use crate::fault::Fault;
 use crate::lines::of_file;
 use crate::message::tell;
-use crate::names::about_word;
+use crate::names::{about_word, bad_keep, no_net};
 use crate::outputs::read_as;
 use crate::refusals::{
     NetlistText, certificate_fault, memory, netlist_fault, no_pair, no_timer, not_accepted,
@@ -158,6 +158,8 @@ impl<'r, 'w, 't> Case<'r, 'w, 't> {
             QuestionFault::Source(fault) => self.source(text, fault),
             QuestionFault::BadName(fault, labels) => about_word(text, *fault, labels),
             QuestionFault::BadVector(word) => self.vector(text, *word),
+            QuestionFault::BadKeep(_) => bad_keep(text),
+            QuestionFault::NoNet(_) => no_net(text),
         }
     }
 

@@ -47,6 +47,26 @@ fn bad(text: &mut Text, topic: Topic) -> Result<(), AllocError> {
     }
 }
 
+/// Appends what a condition has to be.
+pub(crate) fn bad_keep(text: &mut Text) -> Result<(), AllocError> {
+    text.push(
+        b"--keep has a net's name, = and two levels, each 0, 1 or ., or the name and ==",
+    )?;
+    help(
+        text,
+        b"ok=11 keeps a net at 1, y=01 asks for its rise, y=.. asks nothing, y== for equal levels",
+    )
+}
+
+/// Appends which names nets have.
+pub(crate) fn no_net(text: &mut Text) -> Result<(), AllocError> {
+    text.push(b"no input and no gate's output is printed so")?;
+    help(
+        text,
+        b"give the name as the netlist has it: a for a wire, a[2] for a bit of a vector",
+    )
+}
+
 /// Appends the names of inputs, of many the first ones.
 fn list(text: &mut Text, labels: &[Label]) -> Result<(), AllocError> {
     for (place, label) in labels.iter().enumerate() {

@@ -138,6 +138,7 @@ pub(crate) fn other_question(text: &mut Text, difference: Difference) -> Result<
             b"the parts have other inputs held than join is told (--hold)".as_slice(),
         Difference::Flips => b"the parts have another --flips than join is told".as_slice(),
         Difference::Moments => b"the parts have another --at than join is told".as_slice(),
+        Difference::Conditions => b"the parts have another --keep than join is told".as_slice(),
     })?;
     help(
         text,

@@ -3,9 +3,9 @@
 ghost use Rattle.std.specs.Prelude.{◌≡◌, codes, decimal, string_bytes, None, Some, IfOk, OnOk};
 ghost use Rattle.json.specs.Json.{string};
 ghost use Rattle.json.specs.Tree.{json_tokens};
-ghost use Rattle.td_lines.specs.Values.{Adds, member_tokens, delays_text, numbers_of, output_value, refused_value};
+ghost use Rattle.td_lines.specs.Values.{Adds, member_tokens, delays_text, output_value, refused_value};
 
-use crate::members::{moments_value, numbers, output, word};
+use crate::members::{moments_value, output, word};
 use crate::moments::Moments;
 use json::Writer;
 use std::alloc::{AllocError, Global};
@@ -99,12 +99,4 @@ pub(crate) fn refused(
 {
     writer.key("refused")?;
     verdict(writer, number, name, line)
-}
-
-/// The time and the other moment of a certificate that is accepted.
-pub(crate) fn accepted_between(writer: &mut Writer, time: u64, high: u64) -> Result<(), AllocError>
-    ensures { OnOk result (Adds writer.old writer.new (member_tokens (codes "accepted") (numbers_of time high))) }
-{
-    writer.key("accepted")?;
-    numbers(writer, time, high)
 }

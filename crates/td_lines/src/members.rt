@@ -1,6 +1,6 @@
 //! Reports as JSON: an object with a member for each line.
 
-ghost use Rattle.std.specs.Prelude.{◌≡◌, ◌∷◌, [], map, codes, decimal, string_bytes, Some, None, IfOk, OnOk};
+ghost use Rattle.std.specs.Prelude.{◌≡◌, ◌∷◌, [], true, map, codes, decimal, string_bytes, Some, None, IfOk, OnOk};
 ghost use Rattle.json.specs.Json.{boolean, number, string, array, Json};
 ghost use Rattle.json.specs.Tree.{json_tokens, items_tokens, members_tokens};
 ghost use Rattle.td_nets.specs.Scales.{scale_text};
@@ -112,7 +112,7 @@ fn member(alloc: Global, writer: &mut Writer, line: &Line) -> Result<(), AllocEr
         Line::Changes(rows) => lists(writer, "change", rows),
         Line::Bound(figure, moment) => bound(writer, figure.key(), *moment),
         Line::Exact(time) => count_of(writer, "exact", *time),
-        Line::Between { low, high } => between(writer, *low, *high),
+        Line::Between { low, high } => two(writer, "between", *low, *high),
         Line::AtMost(high) => at_most(writer, *high),
         Line::NoPair => none(writer),
         Line::Cause(why) => cause(writer, *why),
@@ -122,7 +122,7 @@ fn member(alloc: Global, writer: &mut Writer, line: &Line) -> Result<(), AllocEr
         Line::Each(rows) => lists(writer, "each", rows),
         Line::Parts(rows) => lists(writer, "parts", rows),
         Line::Accepted(time) => count_of(writer, "accepted", *time),
-        Line::AcceptedBetween { time, high } => claims::accepted_between(writer, *time, *high),
+        Line::AcceptedBetween { time, high } => two(writer, "accepted", *time, *high),
         Line::AcceptedNone => word(writer, "accepted", "none"),
         Line::Unchecked(time) => count_of(writer, "unchecked", *time),
         Line::UncheckedNone => word(writer, "unchecked", "none"),
@@ -168,7 +168,7 @@ fn bound(writer: &mut Writer, key: &str, bound: Option<u64>) -> Result<(), Alloc
     moment(writer, bound)
 }
 
-pub(crate) fn numbers(writer: &mut Writer, low: u64, high: u64) -> Result<(), AllocError>
+fn numbers(writer: &mut Writer, low: u64, high: u64) -> Result<(), AllocError>
     ensures { OnOk result (Adds writer.old writer.new (json_tokens (numbers_of low high))) }
 {
     writer.begin_array()?;
@@ -177,10 +177,10 @@ pub(crate) fn numbers(writer: &mut Writer, low: u64, high: u64) -> Result<(), Al
     writer.end_array()
 }
 
-fn between(writer: &mut Writer, low: u64, high: u64) -> Result<(), AllocError>
-    ensures { OnOk result (Adds writer.old writer.new (member_tokens (codes "between") (numbers_of low high))) }
+fn two(writer: &mut Writer, key: &str, low: u64, high: u64) -> Result<(), AllocError>
+    ensures { OnOk result (Adds writer.old writer.new (member_tokens key.now (numbers_of low high))) }
 {
-    writer.key("between")?;
+    writer.key(key)?;
     numbers(writer, low, high)
 }
 

@@ -1,7 +1,7 @@
 -- What a search for the worst delay of the pairs that keep conditions comes to.
 use Rattle.std.specs.Prelude.{◌≡◌, ℕ, ◌≤◌, min, Bool, true, List, length, Option, Some, None}
 use Rattle.td_circuit.specs.Settings.{Setting}
-use Rattle.td_domain.specs.Admits.{Admitted, HasAdmitted}
+use Rattle.td_domain.specs.Admits.{Admitted}
 use Rattle.td_lead.specs.declared.timed.Timed.{Timed}
 use Rattle.td_refutation.specs.declared.conditions.NamedCondition.{NamedCondition}
 use Rattle.td_refutation.specs.Asking.{Asking}
@@ -16,11 +16,7 @@ use Rattle.td_certificate.specs.Questions.{Terms, Question}
 use Rattle.td_certificate.specs.Spelling.{AreConditions, AreTerms}
 use Rattle.td_search.specs.declared.answers.Cause.{Cause}
 use Rattle.td_search.specs.declared.answers.Cause.TheVariants as cause
-use Rattle.td_search.specs.declared.answers.SearchFault.{SearchFault}
-use Rattle.td_search.specs.declared.answers.SearchFault.TheVariants as search
 use Rattle.td_search.specs.Written.{HasText}
-use Rattle.td_worst.specs.declared.fault.WorstFault.{WorstFault}
-use Rattle.td_worst.specs.declared.fault.WorstFault.TheVariants as fault
 use Rattle.td_worst.specs.declared.kept_answer.KeptAnswer.{KeptAnswer}
 use Rattle.td_worst.specs.declared.kept_answer.KeptAnswer.TheVariants as kept
 
@@ -84,12 +80,3 @@ KeptTimeNeedsStop can_be_set (kept.Exact best tree) = Unit {0}
 KeptTimeNeedsStop can_be_set (kept.Between best high why) = why ≡ cause.Time → can_be_set ≡ true
 KeptTimeNeedsStop can_be_set (kept.Open high why) = why ≡ cause.Time → can_be_set ≡ true
 KeptTimeNeedsStop can_be_set (kept.NoPair tree) = Unit {0}
-
--- why a search has no answer: whatever they keep, no pair is admitted
-abbrev pub IsKeptSearchFault : Admitted → SearchFault → Type 0
-IsKeptSearchFault admit search.OutOfMemory = Unit {0}
-IsKeptSearchFault admit search.NoPair = ¬ HasAdmitted admit admit.pins
-
-abbrev pub IsKeptFault : Bool → Admitted → WorstFault → Type 0
-IsKeptFault is_timed admit (fault.Search reason) = IsKeptSearchFault admit reason
-IsKeptFault is_timed admit fault.NoTimer = is_timed ≡ true

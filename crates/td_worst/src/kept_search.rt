@@ -5,7 +5,10 @@ ghost use Rattle.td_circuit.specs.Numbering.{setting};
 ghost use Rattle.td_domain.specs.Bounds.{IsUpperBoundIn};
 ghost use Rattle.td_certificate.specs.Accepts.{are_fit, IsBoundBy};
 ghost use Rattle.td_certificate.specs.declared.tree.BoundedBy.TheVariants as domain;
-ghost use Rattle.td_worst.specs.Kept.{IsKeptAnswer, IsKeptWithinEdges, KeptTimeNeedsStop, IsKeptSearchFault};
+ghost use Rattle.td_search.specs.declared.strategy.Strategy.TheVariants as strategy;
+ghost use Rattle.td_search.specs.Answers.{IsSearchFault};
+ghost use Rattle.td_search.specs.Problems.{problem_by};
+ghost use Rattle.td_worst.specs.Kept.{IsKeptAnswer, IsKeptWithinEdges, KeptTimeNeedsStop};
 
 use crate::kept_answer::{KeptAnswer, Known};
 use crate::refuting::cause_of;
@@ -41,7 +44,7 @@ pub fn worst_kept_until<R: Threads + Sync>(
     ensures answer { IfOk result (IsKeptAnswer (setting circuit.now) (record { admit = admit.now; keep = keep.now })) }
     ensures edges { IfOk result (IsKeptWithinEdges (setting circuit.now) admit.now) }
     ensures time { IfOk result (KeptTimeNeedsStop limits.entry.stop.now.can_be_set) }
-    ensures fault { IfErr result (IsKeptSearchFault admit.now) }
+    ensures fault { IfErr result (IsSearchFault (problem_by strategy.Lead circuit.now admit.now)) }
 {
     // For the prover: the circuit's sizes.
     let _gates = circuit.gates();

@@ -3,7 +3,10 @@
 ghost use Rattle.std.specs.Prelude.{◌≡◌, ◌+◌, true, length, is_some, IfOk, IfErr};
 ghost use Rattle.td_circuit.specs.Numbering.{setting};
 ghost use Rattle.td_certificate.specs.Accepts.{are_fit};
-ghost use Rattle.td_worst.specs.Kept.{IsKeptAnswer, IsKeptWithinEdges, KeptTimeNeedsStop, IsKeptFault};
+ghost use Rattle.td_search.specs.declared.strategy.Strategy.TheVariants as strategy;
+ghost use Rattle.td_search.specs.Problems.{problem_by};
+ghost use Rattle.td_worst.specs.Faults.{IsWorstFault};
+ghost use Rattle.td_worst.specs.Kept.{IsKeptAnswer, IsKeptWithinEdges, KeptTimeNeedsStop};
 
 use crate::fault::WorstFault;
 use crate::kept_answer::KeptAnswer;
@@ -41,7 +44,7 @@ pub fn worst_kept<R: Threads + Wait + Clock + Sync>(
     ensures edges { IfOk result (IsKeptWithinEdges (setting circuit.now) admit.now) }
     // Time is a cause only where seconds are given.
     ensures time { IfOk result (KeptTimeNeedsStop (is_some effort.seconds)) }
-    ensures fault { IfErr result (IsKeptFault (is_some effort.seconds) admit.now) }
+    ensures fault { IfErr result (IsWorstFault (is_some effort.seconds) (problem_by strategy.Lead circuit.now admit.now)) }
 {
     let TimedEffort { effort, seconds } = effort;
     let Some(seconds) = seconds else {
@@ -82,7 +85,7 @@ fn kept_within<R: Threads + Wait + Clock + Sync>(
     requires fit { are_fit (2 + length circuit.now.netlist.inputs + length circuit.now.netlist.gates) keep.now ≡ true }
     ensures answer { IfOk result (IsKeptAnswer (setting circuit.now) (record { admit = admit.now; keep = keep.now })) }
     ensures edges { IfOk result (IsKeptWithinEdges (setting circuit.now) admit.now) }
-    ensures fault { IfErr result (IsKeptFault true admit.now) }
+    ensures fault { IfErr result (IsWorstFault true (problem_by strategy.Lead circuit.now admit.now)) }
 {
     let Timed {
         limits,
@@ -98,7 +101,7 @@ fn kept_within<R: Threads + Wait + Clock + Sync>(
             requires fit { are_fit (2 + length circuit.now.netlist.inputs + length circuit.now.netlist.gates) keep.now ≡ true }
             ensures answer { IfOk result (IsKeptAnswer (setting circuit.entry.now) (record { admit = admit.entry.now; keep = keep.entry.now })) }
             ensures edges { IfOk result (IsKeptWithinEdges (setting circuit.entry.now) admit.entry.now) }
-            ensures fault { IfErr result (IsKeptFault true admit.entry.now) }
+            ensures fault { IfErr result (IsWorstFault true (problem_by strategy.Lead circuit.entry.now admit.entry.now)) }
         {
             let Ok(running) = scope.spawn(move || timer.run(rt, seconds, stop)) else {
                 return Err(WorstFault::NoTimer);

@@ -24,9 +24,9 @@ returns-in_err-whole-clause-refusal c =
     let reported = err_from_is_err_and c.from_residual-in_err-whole.result c.from_residual-in_err-whole.ensures.1 in
     rw (reported.1, reported.2) (inr (inr (record {
       setting = setting c.in_ok-sought.sought.circuit;
-      admit = c.in_ok-sought.sought.admit;
+      asking = record { admit = c.in_ok-sought.sought.admit; keep = c.in_ok-sought.sought.keep.items };
       parts = c.in_ok-parts.parts.items;
-      to_join = record { asks = c.in_ok-sought.ensures.asked; are_parts = rw c.names-names.ensures at c.in_ok-parts.ensures.parts };
+      to_join = record { asks = record { asked = c.in_ok-sought.ensures.asked; keep = c.in_ok-sought.ensures.keep }; are_parts = rw c.names-names.ensures at c.in_ok-parts.ensures.parts };
       unjoined = rw c.names-names.ensures at c.in_err-whole.ensures.refusal;
     })))
 
@@ -44,11 +44,12 @@ returns-clause-says c =
     c.args.asked.now.check _ _ c.in_ok-parts.parts.items are) in
     record {
       setting = setting c.in_ok-sought.sought.circuit;
-      admit = c.in_ok-sought.sought.admit;
+      asking = record { admit = c.in_ok-sought.sought.admit; keep = c.in_ok-sought.sought.keep.items };
       parts = c.in_ok-parts.parts.items;
-      to_join = record { asks = c.in_ok-sought.ensures.asked; are_parts = are };
+      to_join = record { asks = record { asked = c.in_ok-sought.ensures.asked; keep = c.in_ok-sought.ensures.keep }; are_parts = are };
       joined = c.in_ok-whole.ensures.joined;
-      admits = admits_asked _ _ c.in_ok-sought.sought.admit c.in_ok-whole.whole c.in_ok-whole.ensures.joined c.in_ok-whole.ensures.asked;
+      admits = admits_asked _ _ (record { admit = c.in_ok-sought.sought.admit; keep = c.in_ok-sought.sought.keep.items }) c.in_ok-whole.whole c.in_ok-whole.ensures.joined c.in_ok-whole.ensures.asked;
+      keeps = c.in_ok-whole.ensures.asked.keep;
       dated = c.in_ok-whole.ensures.asked.at;
       has_text = spelled;
       few = c.in_ok-whole.ensures.few;

@@ -1,0 +1,196 @@
+-- From the answer of a search for the pairs that keep conditions to the sentences.
+use Rattle.std.proofs.Common.{◌≡◌, ◌∙◌, ℕ, ◌≤◌, ◌+◌, List, [], ◌∷◌, ◌++◌, length, refl, sym, ap, subst, arith, Bool, true, false, append_assoc, inl, inr}
+use Rattle.std.specs.Prelude.{Option, Some, None, min, is_some, option_map}
+use Rattle.std.specs.List.{Contains}
+use Rattle.td_reading.specs.declared.reading.Reading.{Reading}
+use Rattle.td_source.specs.Reads.{AreOutputsOf}
+use Rattle.td_circuit.specs.Numbering.{Numbered, setting}
+use Rattle.td_domain.specs.Admits.{Admitted}
+use Rattle.td_lead.specs.declared.timed.Timed.{Timed}
+use Rattle.td_refutation.specs.Asking.{Asking}
+use Rattle.td_refute.specs.Kept.{IsTimedAmong, IsBoundAmong, AsksNone}
+use Rattle.td_certificate.specs.declared.certificate.Certificate.{Certificate}
+use Rattle.td_certificate.specs.declared.certificate.Claim.{Claim}
+use Rattle.td_certificate.specs.declared.tree.Node.{Node}
+use Rattle.td_certificate.specs.Lengths.{HaveFew}
+use Rattle.td_certificate.specs.Spelling.{AreConditions, AreTerms, HasSpelling}
+use Rattle.td_search.specs.declared.answers.Cause.{Cause as SearchCause}
+use Rattle.td_search.specs.Problems.{has_delay, problem_by}
+use Rattle.td_search.specs.declared.strategy.Strategy.TheVariants.{Lead}
+use Rattle.td_worst.specs.Kept.{certificate_with, claim_of, IsCertifiedAmong as IsCertifiedWith, IsWorstAmong, LiesBetweenAmong}
+use Rattle.td_request.specs.declared.request.Search.{Search}
+use Rattle.td_question.specs.Asking.{IsAskedKeeping}
+use Rattle.td_question.proofs.Questions.{asked_flips}
+use Rattle.td_lines.specs.declared.line.Line.{Line}
+use Rattle.td_lines.specs.declared.line.Line.TheVariants as line
+use Rattle.td_answer.specs.declared.kept_certificate.Told.{Told}
+use Rattle.td_answer.specs.declared.outcome.Outcome.{Outcome}
+use Rattle.td_answer.specs.declared.outcome.Waves.{Waves}
+use Rattle.td_answer.specs.declared.status.Status.{Status}
+use Rattle.td_answer.specs.declared.status.Status.TheVariants as status
+use Rattle.td_answer.specs.Heads.{head_lines}
+use Rattle.td_answer.specs.Lines.{exact_lines, between_lines, cause_line}
+use Rattle.td_answer.specs.Runs.{TellsPair}
+use Rattle.td_answer.specs.Additions.{AddsLines}
+use Rattle.td_answer.specs.Kept.{HasFigureAmong, DumpsPair, IsTrueKept, IsShownAmong, IsCertifiedAmong}
+use Rattle.td_answer.specs.KeptTerms.{kept_terms}
+use Rattle.td_answer.proofs.Searched.{cause_of, cause_is, delay_fits}
+
+-- the pair has a bit in each vector for each input
+pub best_fits : (circuit : Numbered) (asking : Asking) (best : Timed) → IsTimedAmong (setting circuit) asking best
+    → (length best.pair.first ≡ length circuit.netlist.inputs) × (length best.pair.second ≡ length circuit.netlist.inputs)
+best_fits circuit asking best timed = delay_fits (problem_by Lead circuit asking.admit) best.pair best.time (timed.asked.admitted, timed.delay)
+
+module _ (circuit : Numbered) (admit : Admitted) (told : Told) (search : Search) (text : List ℕ) (reading : Reading)
+    (asked : IsAskedKeeping text reading search.question (setting circuit) (record { admit = admit; keep = told.keep.items })) (outcome : Outcome) where
+  abbrev asking : Asking
+  asking = record { admit = admit; keep = told.keep.items }
+
+  abbrev Figure : List Line → Option Waves → Status → Type 0
+  Figure lines dump ending = HasFigureAmong (setting circuit) asking search lines dump ending
+
+  -- ---- what the report says
+
+  says : (lines : List Line) (ending : Status) → outcome.report ≡ head_lines circuit.netlist ++ lines → outcome.status ≡ ending → Figure lines outcome.dump ending
+      → IsTrueKept text reading search outcome
+  says lines ending printed ends figure = record {
+    setting = setting circuit;
+    asking = asking;
+    asked = asked;
+    lines = lines;
+    is = printed;
+    figure = subst (λ (e : Status). Figure lines outcome.dump e) (sym ends) figure;
+  }
+
+  pub exact_says : (best : Timed) (tree : List Node) → IsWorstAmong (setting circuit) asking best
+      → AddsLines (TellsPair search.shown (setting circuit) best.pair) (head_lines circuit.netlist ++ exact_lines best.time best.pair (length tree)) outcome.report
+      → outcome.status ≡ status.Done → DumpsPair search (setting circuit) best.pair outcome.dump → IsTrueKept text reading search outcome
+  exact_says best tree worst adds ends dumped =
+      says (exact_lines best.time best.pair (length tree) ++ adds.0) status.Done
+      (adds.1 ∙ append_assoc (head_lines circuit.netlist) (exact_lines best.time best.pair (length tree)) adds.0) ends
+      (
+        best.pair,
+        record {
+          time = best.time;
+          nodes = length tree;
+          more = adds.0;
+          printed = refl;
+          has = record { asked = worst.timed.asked; delays = worst.timed.delay };
+          greatest = worst.greatest;
+          tells = adds.2;
+        },
+        dumped,
+      )
+
+  pub between_says : (best : Timed) (high : ℕ) (why : SearchCause) → LiesBetweenAmong (setting circuit) asking best high
+      → AddsLines (TellsPair search.shown (setting circuit) best.pair) (head_lines circuit.netlist ++ between_lines best.time high why best.pair 0) outcome.report
+      → outcome.status ≡ status.Between → DumpsPair search (setting circuit) best.pair outcome.dump → IsTrueKept text reading search outcome
+  between_says best high why lies adds ends dumped =
+      says (between_lines best.time high why best.pair 0 ++ adds.0) status.Between
+      (adds.1 ∙ append_assoc (head_lines circuit.netlist) (between_lines best.time high why best.pair 0) adds.0) ends
+      (inl (
+        best.pair,
+        record {
+          low = best.time;
+          high = high;
+          cause = cause_of why;
+          nodes = 0;
+          more = adds.0;
+          printed = ap (λ (c : Line). line.Between best.time high ∷ c ∷ line.From best.pair.first ∷ line.To best.pair.second ∷ line.Nodes 0 ∷ adds.0) (cause_is why);
+          has = record { asked = lies.timed.asked; delays = lies.timed.delay };
+          greatest = lies.greatest;
+          ordered = lies.ordered;
+          tells = adds.2;
+        },
+        dumped,
+      ))
+
+  pub at_most_says : (high : ℕ) (why : SearchCause) → IsBoundAmong (setting circuit) asking high
+      → outcome.report ≡ head_lines circuit.netlist ++ line.AtMost high ∷ cause_line why ∷ [] → outcome.status ≡ status.Between → outcome.dump ≡ None
+      → IsTrueKept text reading search outcome
+  at_most_says high why bound printed ends none =
+      says (line.AtMost high ∷ cause_line why ∷ []) status.Between printed ends
+      (inr (
+        record {
+          high = high;
+          cause = cause_of why;
+          printed = ap (λ (c : Line). line.AtMost high ∷ c ∷ []) (cause_is why);
+          greatest = bound;
+        },
+        none,
+      ))
+
+  pub none_says : (tree : List Node) → AsksNone (setting circuit) asking
+      → outcome.report ≡ head_lines circuit.netlist ++ line.NoPair ∷ line.Nodes (length tree) ∷ [] → outcome.status ≡ status.Refused → outcome.dump ≡ None
+      → IsTrueKept text reading search outcome
+  none_says tree asks_none printed ends none =
+      says (line.NoPair ∷ line.Nodes (length tree) ∷ []) status.Refused printed ends (record { nodes = length tree; printed = refl; none = asks_none }, none)
+
+  -- ---- the certificate
+
+  same_admit : record admit { flips = min admit.flips (length admit.held) } ≡ admit
+  same_admit = ap (λ (flips : ℕ). record admit { flips = flips }) (omega (arith, asked_flips text reading search.question (setting circuit) admit asked.asked))
+
+  abbrev certificate : Option Claim → List Node → Certificate
+  certificate claim tree = certificate_with (setting circuit) admit (kept_terms told) claim tree
+
+  module _ (are_outputs : AreOutputsOf text reading (option_map (λ numbers. numbers.items) told.outputs)) (same : told.default ≡ reading.default)
+      (terms : AreConditions told.keep.items → AreTerms (Some (kept_terms told))) (few : length told.keep.items ≤ 5000 → HaveFew (Some (kept_terms told))) where
+    shown : (claim : Option Claim) (tree : List Node) → IsCertifiedWith (setting circuit) asking claim tree
+        → IsShownAmong text reading search.question (certificate claim tree)
+    shown claim tree is = record {
+      netlist = circuit.netlist;
+      asked = subst (λ (a : Admitted). IsAskedKeeping text reading search.question (setting circuit) (record { admit = a; keep = told.keep.items })) (sym same_admit) asked;
+      terms = (are_outputs, same);
+      accepted = is.accepted (kept_terms told) refl;
+      written = (is.written (kept_terms told) refl (terms is.told) (few is.few)).0;
+    }
+
+    -- a certificate with what it shows, where the outcome has it
+    kept : (claim : Option Claim) (tree : List Node) (ending : Status) → outcome.certificate ≡ Some (certificate claim tree) → outcome.status ≡ ending
+        → IsCertifiedAmong text reading search.question outcome.report (Some (certificate claim tree)) ending
+        → IsCertifiedAmong text reading search.question outcome.report outcome.certificate outcome.status
+    kept claim tree ending has ends is =
+        subst (λ (e : Status). IsCertifiedAmong text reading search.question outcome.report outcome.certificate e) (sym ends)
+        (subst (λ (c : Option Certificate). IsCertifiedAmong text reading search.question outcome.report c ending) (sym has) is)
+
+    pub exact_kept : (best : Timed) (tree : List Node) → IsCertifiedWith (setting circuit) asking (Some (claim_of best)) tree
+        → AddsLines (TellsPair search.shown (setting circuit) best.pair) (head_lines circuit.netlist ++ exact_lines best.time best.pair (length tree)) outcome.report
+        → outcome.certificate ≡ Some (certificate (Some (claim_of best)) tree) → outcome.status ≡ status.Done
+        → IsCertifiedAmong text reading search.question outcome.report outcome.certificate outcome.status
+    exact_kept best tree is adds has ends =
+        kept (Some (claim_of best)) tree status.Done has ends (
+          shown (Some (claim_of best)) tree is,
+          record {
+            claim = claim_of best;
+            claims = refl;
+            tells = subst (λ (lines : List Line). Contains lines (line.Exact best.time)) (sym adds.1) (2, omega arith, refl);
+            closed = refl;
+          },
+        )
+
+    pub none_kept : (tree : List Node) → IsCertifiedWith (setting circuit) asking None tree
+        → outcome.report ≡ head_lines circuit.netlist ++ line.NoPair ∷ line.Nodes (length tree) ∷ []
+        → outcome.certificate ≡ Some (certificate None tree) → outcome.status ≡ status.Refused
+        → IsCertifiedAmong text reading search.question outcome.report outcome.certificate outcome.status
+    none_kept tree is printed has ends =
+        kept None tree status.Refused has ends (
+          shown None tree is,
+          refl,
+          subst (λ (lines : List Line). Contains lines line.NoPair) (sym printed) (2, omega arith, refl),
+        )
+
+  -- no certificate
+  pub open_kept : outcome.certificate ≡ None → outcome.status ≡ status.Between
+      → IsCertifiedAmong text reading search.question outcome.report outcome.certificate outcome.status
+  open_kept none ends =
+      subst (λ (e : Status). IsCertifiedAmong text reading search.question outcome.report outcome.certificate e) (sym ends)
+      (subst (λ (c : Option Certificate). IsCertifiedAmong text reading search.question outcome.report c status.Between) (sym none) refl)
+
+-- ---- what can be written
+
+pub certificate_written : (circuit : Numbered) (admit : Admitted) (told : Told) (claim : Option Claim) (tree : List Node)
+    → IsCertifiedWith (setting circuit) (record { admit = admit; keep = told.keep.items }) claim tree
+    → (AreConditions told.keep.items → AreTerms (Some (kept_terms told))) → (length told.keep.items ≤ 5000 → HaveFew (Some (kept_terms told)))
+    → HasSpelling (certificate_with (setting circuit) admit (kept_terms told) claim tree)
+certificate_written circuit admit told claim tree is terms few = (is.written (kept_terms told) refl (terms is.told) (few is.few)).0

@@ -1,0 +1,27 @@
+-- What is true of the outcome of a search, with conditions or without.
+use Rattle.std.specs.Prelude.{ℕ, Bool, true, false, List, Option}
+use Rattle.td_reading.specs.declared.reading.Reading.{Reading}
+use Rattle.td_certificate.specs.declared.certificate.Certificate.{Certificate}
+use Rattle.td_lines.specs.declared.line.Line.{Line}
+use Rattle.td_request.specs.declared.question.Question.{Question}
+use Rattle.td_request.specs.declared.request.Search.{Search}
+use Rattle.td_answer.specs.Certified.{IsCertified}
+use Rattle.td_answer.specs.Kept.{has_conditions, IsTrueKept, IsCertifiedAmong}
+use Rattle.td_answer.specs.Sentences.{IsTrueWorst}
+use Rattle.td_answer.specs.declared.outcome.Outcome.{Outcome}
+use Rattle.td_answer.specs.declared.status.Status.{Status}
+
+-- of all admitted pairs, or of those that keep conditions
+abbrev pub IsTrueBy : Bool → List ℕ → Reading → Search → Outcome → Type 0
+IsTrueBy false text reading search outcome = IsTrueWorst text reading search outcome
+IsTrueBy true text reading search outcome = IsTrueKept text reading search outcome
+
+abbrev pub IsTrueSearch : List ℕ → Reading → Search → Outcome → Type 0
+IsTrueSearch text reading search outcome = IsTrueBy (has_conditions search.question) text reading search outcome
+
+abbrev pub IsCertifiedBy : Bool → List ℕ → Reading → Question → List Line → Option Certificate → Status → Type 0
+IsCertifiedBy false text reading question report certificate ending = IsCertified text reading question report certificate ending
+IsCertifiedBy true text reading question report certificate ending = IsCertifiedAmong text reading question report certificate ending
+
+abbrev pub IsCertifiedFor : List ℕ → Reading → Question → List Line → Option Certificate → Status → Type 0
+IsCertifiedFor text reading question report certificate ending = IsCertifiedBy (has_conditions question) text reading question report certificate ending
