@@ -6,6 +6,8 @@ use Rattle.td_reading.specs.declared.reading.Reading.{Reading}
 use Rattle.td_circuit.specs.Settings.{Setting}
 use Rattle.td_domain.specs.Pairs.{Pair}
 use Rattle.td_domain.specs.Admits.{Admitted, IsAdmitted}
+use Rattle.td_refutation.specs.Asking.{Asking, IsAskedAbout, all_admitted}
+use Rattle.td_refutation.proofs.Asking.{nothing_kept}
 use Rattle.td_search.specs.declared.answers.Answer.{Answer}
 use Rattle.td_search.specs.declared.answers.Answer.TheVariants as answer
 use Rattle.td_search.specs.declared.answers.SearchFault.TheVariants as failed
@@ -13,18 +15,39 @@ use Rattle.td_search.specs.Problems.{Problem}
 use Rattle.td_worst.specs.declared.fault.WorstFault.{WorstFault}
 use Rattle.td_worst.specs.declared.fault.WorstFault.TheVariants as fault
 use Rattle.td_worst.specs.Methods.{IsSoundAnswer}
+use Rattle.td_worst.specs.declared.kept_answer.KeptAnswer.{KeptAnswer}
+use Rattle.td_worst.specs.declared.kept_answer.KeptAnswer.TheVariants as kept
+use Rattle.td_worst.specs.Kept.{IsKeptAnswer}
 use Rattle.td_worst.specs.Faults.{IsWorstFault}
 use Rattle.td_request.specs.declared.request.Search.{Search}
 use Rattle.td_question.specs.Asking.{IsAsked}
 use Rattle.td_answer.specs.declared.refusal.Refusal.{Refusal}
 use Rattle.td_answer.specs.declared.refusal.Refusal.TheVariants as refusal
 use Rattle.td_answer.specs.Searches.{IsRefusedSearch}
-use Rattle.td_answer.specs.Tables.{found_of, IsTrueFound, IsUnanswered}
+use Rattle.td_answer.specs.Tables.{found_of, kept_found, IsTrueFound, IsUnanswered}
 
-pub true_found : (problem : Problem) (budget : ℕ) (found : Answer) → IsSoundAnswer problem budget found → IsTrueFound problem.setting problem.admit (found_of found)
-true_found problem budget (answer.Exact time pair tree) is = record { pair = pair; admitted = is.reached.0; reached = is.reached.1; greatest = is.greatest }
-true_found problem budget (answer.Between low high pair nodes short) is =
-    record { pair = pair; has = record { admitted = is.reached.0; delays = is.reached.1 }; greatest = is.greatest; ordered = is.ordered }
+-- where there is no condition, the pairs that are asked about are the admitted ones
+about : (problem : Problem) (pair : Pair) → IsAdmitted problem.admit pair → IsAskedAbout problem.setting.netlist (all_admitted problem.admit) pair
+about problem pair admitted = record { admitted = admitted; kept = nothing_kept problem.setting.netlist pair }
+
+pub true_found : (problem : Problem) (budget : ℕ) (found : Answer) → IsSoundAnswer problem budget found
+    → IsTrueFound problem.setting (all_admitted problem.admit) (found_of found)
+true_found problem budget (answer.Exact time pair tree) is =
+    ((pair, about problem pair is.reached.0, is.reached.1), λ other delay asked has. is.greatest other delay asked.admitted has)
+true_found problem budget (answer.Between low high pair nodes short) is = record {
+  pair = pair;
+  has = record { asked = about problem pair is.reached.0; delays = is.reached.1 };
+  greatest = λ other delay asked has. is.greatest other delay asked.admitted has;
+  ordered = is.ordered;
+}
+
+-- what an answer says of the pairs that keep conditions
+pub true_kept : (setting : Setting) (asking : Asking) (found : KeptAnswer) → IsKeptAnswer setting asking found → IsTrueFound setting asking (kept_found found)
+true_kept setting asking (kept.Exact best tree) is = ((best.pair, is.0.timed.asked, is.0.timed.delay), is.0.greatest)
+true_kept setting asking (kept.Between best high why) is =
+    record { pair = best.pair; has = record { asked = is.timed.asked; delays = is.timed.delay }; greatest = is.greatest; ordered = is.ordered }
+true_kept setting asking (kept.Open high why) is = is
+true_kept setting asking (kept.NoPair tree) is = is.0
 
 pub unanswered : (search : Search) (problem : Problem) (is_timed : Bool) (reason : WorstFault) → is_timed ≡ is_some search.effort.seconds
     → IsWorstFault is_timed problem reason → IsUnanswered search problem.admit (refusal.Search reason)

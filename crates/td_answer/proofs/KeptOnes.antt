@@ -67,8 +67,7 @@ module _ (circuit : Numbered) (admit : Admitted) (told : Told) (search : Search)
       → outcome.status ≡ status.Done → DumpsPair search (setting circuit) best.pair outcome.dump → IsTrueKept text reading search outcome
   exact_says best tree worst adds ends dumped =
       says (exact_lines best.time best.pair (length tree) ++ adds.0) status.Done
-      (adds.1 ∙ append_assoc (head_lines circuit.netlist) (exact_lines best.time best.pair (length tree)) adds.0) ends
-      (
+      (adds.1 ∙ append_assoc (head_lines circuit.netlist) (exact_lines best.time best.pair (length tree)) adds.0) ends (
         best.pair,
         record {
           time = best.time;

@@ -3,7 +3,7 @@ use Rattle.std.proofs.Common.{◌≡◌, ◌∙◌, ◌++◌, List, ℕ, [], ◌
 use Rattle.std.specs.Borrow.{Bor}
 use Rattle.std.specs.List.{flat_map}
 use Rattle.std.proofs.lemmas.List.Concat.{flat_map-cons}
-use Rattle.td_answer.specs.Parts.{output_words, outputs_words}
+use Rattle.td_answer.specs.Parts.{keep_option, keep_options, output_words, outputs_words}
 
 pub outputs_told : (names : List (Bor (List ℕ))) → flat_map output_words names ≡ outputs_words (map (λ name. name.now) names)
 outputs_told [] = refl
@@ -11,3 +11,10 @@ outputs_told (name ∷ names) =
     flat_map-cons output_words name names
     ∙ ap (λ (words : List (List ℕ)). output_words name ++ words) (outputs_told names)
     ∙ sym (flat_map-cons (λ (n : List ℕ). codes "--output" ∷ n ∷ []) name.now (map (λ name. name.now) names))
+
+pub keep_told : (words : List (Bor (List ℕ))) → flat_map keep_option words ≡ keep_options (map (λ word. word.now) words)
+keep_told [] = refl
+keep_told (word ∷ words) =
+    flat_map-cons keep_option word words
+    ∙ ap (λ (options : List (List ℕ)). keep_option word ++ options) (keep_told words)
+    ∙ sym (flat_map-cons (λ (w : List ℕ). codes "--keep" ∷ w ∷ []) word.now (map (λ w. w.now) words))

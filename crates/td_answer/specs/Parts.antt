@@ -15,7 +15,7 @@ use Rattle.td_join.specs.Partition.{IsPartition}
 use Rattle.td_parts.specs.Whole.{IsWhole}
 use Rattle.td_inputs.specs.Placings.{Placed}
 use Rattle.td_request.specs.declared.request.Parts.{Parts}
-use Rattle.td_question.specs.Asking.{IsAsked, IsQuestionFault, SayTogether}
+use Rattle.td_question.specs.Asking.{IsAsked, IsQuestionFault, SayTogether, keep_words}
 use Rattle.td_lines.specs.declared.line.Line.{Line}
 use Rattle.td_lines.specs.declared.line.Line.TheVariants as line
 use Rattle.td_answer.specs.Methods.{method_of}
@@ -45,9 +45,17 @@ pins_words pins = codes "--first" ∷ row trit (first_trits pins) ∷ codes "--s
 abbrev pub question_words : Placed → Option ℕ → List (List ℕ)
 question_words words flips = given_words (codes "--hold") words.hold ++ flips_words flips ++ given_words (codes "--at") words.at
 
+-- the option of each condition
+abbrev pub keep_options : List (List ℕ) → List (List ℕ)
+keep_options words = flat_map (λ word. codes "--keep" ∷ word ∷ []) words
+
 -- the option of each output that is asked about
 abbrev pub outputs_words : List (List ℕ) → List (List ℕ)
 outputs_words names = flat_map (λ name. codes "--output" ∷ name ∷ []) names
+
+-- Internal: the option of one condition.
+abbrev pub keep_option : Bor (List ℕ) → List (List ℕ)
+keep_option word = codes "--keep" ∷ word.now ∷ []
 
 -- Internal: the option of one output.
 abbrev pub output_words : Bor (List ℕ) → List (List ℕ)
@@ -60,8 +68,8 @@ reading_words reading =
     ++ outputs_words reading.outputs
 
 -- the options by which `worst` searches the part with these pins
-abbrev pub part_words : Reading → Placed → Option ℕ → List Trit → List (List ℕ)
-part_words reading words flips pins = pins_words pins ++ question_words words flips ++ reading_words reading
+abbrev pub part_words : Reading → Placed → Option ℕ → List (List ℕ) → List Trit → List (List ℕ)
+part_words reading words flips keep pins = pins_words pins ++ question_words words flips ++ keep_options keep ++ reading_words reading
 
 -- the line has the options of each part
 abbrev pub HasParts : List (List (List ℕ)) → Line → Type 0
@@ -87,7 +95,7 @@ pub record IsTrueParts (text : List ℕ) (reading : Reading) (asked : Parts) (ou
   pub some : All (HasAdmitted admit) cubes
   pub inside : All (λ cube. IsPart cube admit.pins) cubes
   pub told : Line
-  pub has : HasParts (map (part_words reading words asked.question.flips) cubes) told
+  pub has : HasParts (map (part_words reading words asked.question.flips (keep_words asked.question.inputs)) cubes) told
   pub is : outcome.report ≡ told ∷ []
   pub ends : outcome.status ≡ Done
 

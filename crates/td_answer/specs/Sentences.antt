@@ -24,13 +24,6 @@ pub record HasDelay (setting : Setting) (admit : Admitted) (pair : Pair) (delay 
   pub admitted : IsAdmitted admit pair
   pub delays : IsDelayOfBits setting pair.first pair.second delay
 
--- some admitted pair has the lower figure as its delay, and none has a greater one than the upper
-pub record LiesBetween (setting : Setting) (admit : Admitted) (low high : ℕ) : Type 0 where
-  pub pair : Pair
-  pub has : HasDelay setting admit pair low
-  pub greatest : IsUpperBound setting admit high
-  pub ordered : low ≤ high
-
 -- The first line is `exact N`, and N is the worst delay of the admitted pairs. The pair on the next
 -- lines is admitted and has it. After the nodes come what is asked of its run.
 pub record IsExact (setting : Setting) (admit : Admitted) (shown : Shown) (pair : Pair) (lines : List Line) : Type 0 where

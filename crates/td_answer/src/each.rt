@@ -1,14 +1,16 @@
 //! The worst delay of each output by itself, as a table.
 
-ghost use Rattle.std.specs.Prelude.{◌≡◌, ◌<◌, ◌*◌, length, slice_get, Some, IfOk, IfErr, OnOk, None as Nothing};
+ghost use Rattle.std.specs.Prelude.{◌≡◌, true, ◌<◌, ◌*◌, length, slice_get, Some, IfOk, IfErr, OnOk, None as Nothing};
 ghost use Rattle.std.specs.List.{AllZip};
 ghost use Rattle.td_nets.specs.Netlist.{Name as Named};
 ghost use Rattle.td_circuit.specs.Numbering.{setting};
 ghost use Rattle.td_certificate.specs.declared.tree.BoundedBy.TheVariants as by;
+ghost use Rattle.td_certificate.specs.Accepts.{are_fit};
+ghost use Rattle.td_question.specs.Keeping.{count_nets};
 ghost use Rattle.td_answer.specs.Additions.{AddsLines};
 ghost use Rattle.td_answer.specs.Bounds.{IsSoundBound};
 ghost use Rattle.td_answer.specs.Searches.{IsRefusedSearch};
-ghost use Rattle.td_answer.specs.Tables.{found_of, is_exact, table_ending, AreTrueFigures, IsTrueRow, AreEach, IsUnanswered, IsTrueTable};
+ghost use Rattle.td_answer.specs.Tables.{found_of, kept_found, is_closed, table_ending, AreTrueFigures, IsTrueRow, AreEach, IsUnanswered, IsTrueTable};
 ghost use Rattle.td_answer.specs.Writing.{CanBeWritten};
 
 use crate::head::begun;
@@ -28,9 +30,18 @@ use td_lines::{Found, Line, Report, Row};
 use td_pool::Unwatched;
 use td_question::{Asked, question_of};
 use td_reading::Reading;
+use td_refutation::NamedCondition;
 use td_request::Search;
 use td_search::Answer;
 use td_source::EachOutput;
+use td_worst::KeptAnswer;
+
+/// Which pairs are asked about: the admitted ones, and what they keep.
+#[derive(Clone, Copy)]
+struct Pairs<'a> {
+    admit: &'a Admit,
+    keep: &'a [NamedCondition],
+}
 
 /// What is found of an output: its worst delay, and its bound by edges.
 #[derive(Clone, Copy, Debug)]
@@ -52,6 +63,21 @@ fn found_of(answer: &Answer) -> Found
     }
 }
 
+/// What an answer says of the worst delay of the pairs that keep conditions.
+fn kept_found(answer: &KeptAnswer) -> Found
+    ensures { result ≡ kept_found answer.now }
+{
+    match answer {
+        KeptAnswer::Exact { best, .. } => Found::Exact(best.time),
+        KeptAnswer::Between { best, high, .. } => Found::Between {
+            low: best.time,
+            high: *high,
+        },
+        KeptAnswer::Open { high, .. } => Found::AtMost(*high),
+        KeptAnswer::NoPair { .. } => Found::NoPair,
+    }
+}
+
 /// The latest moment by edges, for the pairs of a cube.
 fn edges_of(alloc: Global, circuit: &Circuit, cube: &Cube) -> Result<Option<u64>, AllocError>
     requires { length cube.now ≡ 2 * length circuit.now.netlist.inputs }
@@ -61,19 +87,29 @@ fn edges_of(alloc: Global, circuit: &Circuit, cube: &Cube) -> Result<Option<u64>
     Ok(edges)
 }
 
-/// What is found of the admitted pairs of a circuit.
+/// What is found of the pairs of a circuit that are asked about.
 fn timing_of<'n, 'w, R: Threads + Wait + Clock + Sync>(
     rt: &R,
     alloc: Global,
     circuit: &Circuit,
-    admit: &Admit,
+    pairs: Pairs<'_>,
     search: &Search<'w>,
 ) -> Result<Timing, Refusal<'n, 'w>>
-    requires held { length admit.now.held ≡ length circuit.now.netlist.inputs }
-    ensures timing { IfOk result (λ timing. AreTrueFigures (setting circuit.now) admit.now timing.found timing.edges) }
-    ensures refusal { IfErr result (IsUnanswered search.now admit.now) }
+    requires held { length pairs.admit.now.held ≡ length circuit.now.netlist.inputs }
+    requires fit { are_fit (count_nets circuit.now.netlist) pairs.keep.now ≡ true }
+    ensures timing { IfOk result (λ timing. AreTrueFigures (setting circuit.now) (record { admit = pairs.entry.admit.now; keep = pairs.entry.keep.now }) timing.found timing.edges) }
+    ensures refusal { IfErr result (IsUnanswered search.now pairs.entry.admit.now) }
 {
+    let Pairs { admit, keep } = pairs;
     let edges = edges_of(alloc, circuit, admit.pins())?;
+    if !keep.is_empty() {
+        let effort = effort_of(&search.effort);
+        let answer = td_worst::worst_kept(rt, alloc, circuit, admit, keep, effort)?;
+        return Ok(Timing {
+            found: kept_found(&answer),
+            edges,
+        });
+    }
     let answer = td_worst::worst(
         rt,
         alloc,
@@ -95,19 +131,20 @@ fn row_of<'n, 'w, R: Threads + Wait + Clock + Sync>(
     alloc: Global,
     outputs: &mut EachOutput,
     place: usize,
-    admit: &Admit,
+    pairs: Pairs<'_>,
     search: &Search<'w>,
 ) -> Result<Row, Refusal<'n, 'w>>
     requires place { place < length outputs.old.whole.netlist.outputs }
-    requires held { length admit.now.held ≡ length outputs.old.whole.netlist.inputs }
+    requires held { length pairs.admit.now.held ≡ length outputs.old.whole.netlist.inputs }
+    requires fit { are_fit (count_nets outputs.old.whole.netlist) pairs.keep.now ≡ true }
     ensures row { IfOk result (λ row. (output : Named) → slice_get outputs.old.whole.netlist.outputs place ≡ Some output
-        → IsTrueRow (setting outputs.old.whole) admit.now output row) }
+        → IsTrueRow (setting outputs.old.whole) (record { admit = pairs.entry.admit.now; keep = pairs.entry.keep.now }) output row) }
     ensures whole { outputs.new.whole ≡ outputs.old.whole }
-    ensures refusal { IfErr result (IsUnanswered search.now admit.now) }
+    ensures refusal { IfErr result (IsUnanswered search.now pairs.entry.admit.now) }
 {
     let output = label(alloc, &outputs.names()[place])?;
     outputs.ask(alloc, place)?;
-    let Timing { found, edges } = timing_of(rt, alloc, outputs.circuit(), admit, search)?;
+    let Timing { found, edges } = timing_of(rt, alloc, outputs.circuit(), pairs, search)?;
     Ok(Row {
         output,
         found,
@@ -120,38 +157,40 @@ fn rows<'n, 'w, R: Threads + Wait + Clock + Sync>(
     rt: &R,
     alloc: Global,
     outputs: &mut EachOutput,
-    admit: &Admit,
+    pairs: Pairs<'_>,
     search: &Search<'w>,
 ) -> Result<Vec<Row>, Refusal<'n, 'w>>
-    requires held { length admit.now.held ≡ length outputs.old.whole.netlist.inputs }
-    ensures rows { IfOk result (λ rows. AllZip (IsTrueRow (setting outputs.old.whole) admit.now) outputs.old.whole.netlist.outputs rows.items) }
-    ensures refusal { IfErr result (IsUnanswered search.now admit.now) }
+    requires held { length pairs.admit.now.held ≡ length outputs.old.whole.netlist.inputs }
+    requires fit { are_fit (count_nets outputs.old.whole.netlist) pairs.keep.now ≡ true }
+    ensures rows { IfOk result (λ rows. AllZip (IsTrueRow (setting outputs.old.whole) (record { admit = pairs.entry.admit.now; keep = pairs.entry.keep.now }))
+        outputs.old.whole.netlist.outputs rows.items) }
+    ensures refusal { IfErr result (IsUnanswered search.now pairs.entry.admit.now) }
 {
     let count = outputs.names().len();
     let mut rows = Vec::new(alloc);
     for place in 0..count {
-        let row = row_of(rt, alloc, outputs, place, admit, search)?;
+        let row = row_of(rt, alloc, outputs, place, pairs, search)?;
         rows.push(row)?;
     }
     Ok(rows)
 }
 
-/// Whether the worst delay is known.
-fn is_exact(found: Found) -> bool
-    ensures { result ≡ is_exact found }
+/// Whether nothing is left open.
+fn is_closed(found: Found) -> bool
+    ensures { result ≡ is_closed found }
 {
     match found {
-        Found::Exact(_) => true,
-        Found::Between { .. } => false,
+        Found::Exact(_) | Found::NoPair => true,
+        Found::Between { .. } | Found::AtMost(_) => false,
     }
 }
 
-/// How a table ends: some search was cut short, or all are exact.
+/// How a table ends: some search was cut short, or nothing is left open.
 fn ending(rows: &[Row]) -> Status
     ensures { result ≡ table_ending rows.now }
 {
     for row in rows {
-        if !is_exact(row.found) {
+        if !is_closed(row.found) {
             return Status::Between;
         }
     }
@@ -181,10 +220,19 @@ pub(crate) fn table<'n, 'w, R: Threads + Wait + Clock + Sync>(
     ensures written { IfOk result CanBeWritten }
     ensures refusal { IfErr result (IsRefusedSearch text.now reading.now search.now) }
 {
-    let Asked { circuit, admit, .. } = question_of(alloc, text, reading, &search.question)?;
+    let Asked {
+        circuit,
+        admit,
+        keep,
+        ..
+    } = question_of(alloc, text, reading, &search.question)?;
     let mut report = begun(alloc, &circuit)?;
     let mut outputs = EachOutput::of(alloc, circuit)?;
-    let rows = rows(rt, alloc, &mut outputs, &admit, search)?;
+    let pairs = Pairs {
+        admit: &admit,
+        keep: &keep,
+    };
+    let rows = rows(rt, alloc, &mut outputs, pairs, search)?;
     let status = ending(&rows);
     push_rows(&mut report, rows)?;
     Ok(Outcome {

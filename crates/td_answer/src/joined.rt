@@ -33,7 +33,11 @@ fn none_line(is_checked: bool) -> Line
 }
 
 /// Appends that no pair is admitted.
-pub(crate) fn push_none(report: &mut Report, is_checked: bool, tree: &Tree) -> Result<(), AllocError>
+pub(crate) fn push_none(
+    report: &mut Report,
+    is_checked: bool,
+    tree: &Tree,
+) -> Result<(), AllocError>
     ensures { OnOk result (report.new ≡ report.old ++ whole_lines is_checked None (length tree.now)) }
 {
     let nodes = tree.nodes();

@@ -1,9 +1,9 @@
 //! The parts of a question, as options by which `worst` searches them.
 
-ghost use Rattle.std.specs.Prelude.{◌≡◌, ◌∷◌, ◌++◌, [], map, decimal, IfOk, IfErr, OnOk, None as Nothing};
+ghost use Rattle.std.specs.Prelude.{◌≡◌, ◌∷◌, ◌++◌, [], map, codes, decimal, IfOk, IfErr, OnOk, None as Nothing};
 ghost use Rattle.std.specs.List.{flat_map};
 ghost use Rattle.td_inputs.specs.Placings.{words_by_place, text_of};
-ghost use Rattle.td_answer.specs.Parts.{given_words, flips_words, default_words, pins_words, question_words, output_words, reading_words, part_words, HasParts, IsTrueParts, IsRefusedParts};
+ghost use Rattle.td_answer.specs.Parts.{given_words, flips_words, default_words, pins_words, question_words, keep_option, output_words, reading_words, part_words, HasParts, IsTrueParts, IsRefusedParts};
 ghost use Rattle.td_answer.specs.Writing.{CanBeWritten};
 
 use crate::outcome::Outcome;
@@ -15,11 +15,20 @@ use td_domain::Cube;
 use td_inputs::ByPlace;
 use td_lines::{Label, Line, Part, Report};
 use td_parts::cut;
-use td_question::question_of;
+use td_question::{keep_words, question_of};
 use td_reading::Reading;
 use td_request::Parts;
 use td_search::{Problem, SearchFault};
 use td_worst::WorstFault;
+
+/// What the options of each part say of its pairs besides pins, and of moments.
+#[derive(Clone, Copy)]
+struct Said<'a> {
+    placed: &'a ByPlace,
+    flips: Option<u64>,
+    /// The words of conditions.
+    keep: &'a [&'a [u8]],
+}
 
 /// Appends a word.
 fn push_word(alloc: Global, words: &mut Vec<Label>, word: &str) -> Result<(), AllocError>
@@ -120,6 +129,26 @@ fn push_question(
     push_given(alloc, words, "--at", placed.at.as_deref())
 }
 
+/// Appends the option of a condition. The words of a command line are texts.
+fn push_condition(alloc: Global, words: &mut Vec<Label>, word: &[u8]) -> Result<(), AllocError>
+    ensures { OnOk result (words.new.items ≡ words.old.items ++ codes "--keep" ∷ word.now ∷ []) }
+{
+    match str::from_utf8(word) {
+        Ok(word) => push_option(alloc, words, "--keep", word),
+        Err(_) => Err(AllocError),
+    }
+}
+
+/// Appends the option of each condition.
+fn push_keep(alloc: Global, words: &mut Vec<Label>, keep: &[&[u8]]) -> Result<(), AllocError>
+    ensures { OnOk result (words.new.items ≡ words.old.items ++ flat_map keep_option keep.now) }
+{
+    for word in keep {
+        push_condition(alloc, words, word)?;
+    }
+    Ok(())
+}
+
 /// Appends the option of each output that is asked about.
 fn push_outputs(alloc: Global, words: &mut Vec<Label>, names: &[&str]) -> Result<(), AllocError>
     ensures { OnOk result (words.new.items ≡ words.old.items ++ flat_map output_words names.now) }
@@ -147,15 +176,15 @@ fn push_reading(
 fn part_of(
     alloc: Global,
     cube: &Cube,
-    placed: &ByPlace,
-    flips: Option<u64>,
+    said: Said<'_>,
     reading: &Reading<'_>,
 ) -> Result<Part, AllocError>
-    ensures { IfOk result (λ part. part.words.items ≡ part_words reading.now (words_by_place placed.now) flips cube.now) }
+    ensures { IfOk result (λ part. part.words.items ≡ part_words reading.now (words_by_place said.entry.placed.now) said.entry.flips (map (λ word. word.now) said.entry.keep.now) cube.now) }
 {
     let mut words = Vec::new(alloc);
     push_pins(alloc, &mut words, cube)?;
-    push_question(alloc, &mut words, placed, flips)?;
+    push_question(alloc, &mut words, said.placed, said.flips)?;
+    push_keep(alloc, &mut words, said.keep)?;
     push_reading(alloc, &mut words, reading)?;
     Ok(Part { words })
 }
@@ -164,15 +193,14 @@ fn part_of(
 fn line_of(
     alloc: Global,
     cubes: &[Cube],
-    placed: &ByPlace,
-    flips: Option<u64>,
+    said: Said<'_>,
     reading: &Reading<'_>,
 ) -> Result<Line, AllocError>
-    ensures { IfOk result (HasParts (map (part_words reading.now (words_by_place placed.now) flips) cubes.now)) }
+    ensures { IfOk result (HasParts (map (part_words reading.now (words_by_place said.entry.placed.now) said.entry.flips (map (λ word. word.now) said.entry.keep.now)) cubes.now)) }
 {
     let mut parts = Vec::new(alloc);
     for cube in cubes {
-        let part = part_of(alloc, cube, placed, flips, reading)?;
+        let part = part_of(alloc, cube, said, reading)?;
         parts.push(part)?;
     }
     Ok(Line::Parts(parts))
@@ -209,7 +237,13 @@ pub(crate) fn parts<'n, 'w>(
     if cubes.is_empty() {
         return Err(Refusal::Search(WorstFault::Search(SearchFault::NoPair)));
     }
-    let line = line_of(alloc, &cubes, &about.words, asked.question.flips, reading)?;
+    let keep = keep_words(alloc, asked.question.inputs.named)?;
+    let said = Said {
+        placed: &about.words,
+        flips: asked.question.flips,
+        keep: &keep,
+    };
+    let line = line_of(alloc, &cubes, said, reading)?;
     let report = report_of(alloc, line)?;
     Ok(Outcome::done(report))
 }

@@ -96,7 +96,7 @@ fn is_keep(topic: Topic) -> bool
 }
 
 /// The words of conditions, in order. The error is out of memory.
-fn words_of<'w>(alloc: Global, named: &[Taken<'w>]) -> Result<Vec<&'w [u8]>, AllocError>
+pub fn keep_words<'w>(alloc: Global, named: &[Taken<'w>]) -> Result<Vec<&'w [u8]>, AllocError>
     ensures { IfOk result (λ words. map (λ word. word.now) words.items ≡ keep_texts (map taken_in named.now)) }
 {
     let mut words = Vec::new(alloc);
@@ -175,7 +175,7 @@ pub(crate) fn conditions_of<'w>(
     ensures keep { IfOk result (λ reported. IfOk reported (λ keep. AreConditions circuit.now.netlist (keep_texts (map taken_in named.now)) keep.items)) }
     ensures fault { IfOk result (λ reported. IfErr reported (IsFirstFault circuit.now.netlist (keep_texts (map taken_in named.now)))) }
 {
-    let words = words_of(alloc, named)?;
+    let words = keep_words(alloc, named)?;
     let names = names_of(alloc, &words)?;
     let numbers = numbers_of(alloc, circuit, &names)?;
     match said_by(alloc, &names, &numbers, &words)? {

@@ -5,4 +5,6 @@ use Rattle.td_answer.proofs.parts.line_of.Given as goal
 
 -- the parts so far
 abbrev pub invariant-loop-cube : goal.invariant-loop-cube
-invariant-loop-cube l = map (λ part. part.words.items) l.parts.items ≡ map (part_words l.reading (words_by_place l.placed) l.flips) (take l.cube-index l.cubes)
+invariant-loop-cube l =
+    map (λ part. part.words.items) l.parts.items
+    ≡ map (part_words l.reading (words_by_place l.said.placed.now) l.said.flips (map (λ word. word.now) l.said.keep.now)) (take l.cube-index l.cubes)
