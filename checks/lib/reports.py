@@ -61,9 +61,10 @@ def accepted_time(report):
     )
 
 
-# What the lines of a report are by their keys: one number, several, or a row of fields of which
-# those at these places are numbers. Those of LISTED come several times; all others are texts.
-NUMBER = "time a t m e n exact unchecked nodes accepted flips inputs outputs gates defaulted depth".split()
+# What the lines of a report are by their keys: one number, a claim, several numbers, or a row of
+# fields of which those at these places are numbers. Those of LISTED come several times; all others are texts.
+NUMBER = "time a t m e n exact nodes flips inputs outputs gates defaulted depth".split()
+CLAIMS = "accepted unchecked".split()
 NUMBERS = "between delay at".split()
 ROWS = {"last": {1}, "change": {0, 5}, "input": {0}, "output": {0}, "refused": {0, 3}}
 LISTED = "last change input output each".split()
@@ -82,6 +83,11 @@ def value_in(key, text):
     fields = re.split(r" (?!\[)", text)
     if key in NUMBER:
         return number_in(text)
+    if key in CLAIMS:
+        numbers = [number_in(word) for word in fields if word.isdigit()]
+        return "none" if not numbers else numbers if fields[0] == "between" else numbers[0]
+    if key == "none":
+        return True
     if key in NUMBERS:
         return None if text == "none" else [number_in(word) for word in fields]
     if key == "output" and all(word.isdigit() for word in fields):
@@ -89,8 +95,8 @@ def value_in(key, text):
     if key == "output" and not text[:1].isdigit():
         return text  # a name alone: the output that changes last
     if key == "each":
-        name, *rest = fields
-        return [name, *(word if word in FIGURES else number_in(word) for word in rest)]
+        name, found, *rest = fields
+        return [name, found, *(word if word in FIGURES else number_in(word) for word in rest)]
     if key in ROWS:
         return [
             number_in(word) if place in ROWS[key] else word for place, word in enumerate(fields)
