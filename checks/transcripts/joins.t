@@ -104,7 +104,7 @@ Parts that claim that no pair is admitted: what is joined claims what another pa
   > END
   $ bash none.sh 0. .1 'time none' none > never
   > bash none.sh 1. .1 'time 2' 'high 2' 'from 00' 'to 11' 'b e 2' > rises
-  $ tdelay join two.v never rises --cert whole
+  $ tdelay join two.v never rises --keep y=.1 --cert whole
   unit 1 ns
   defaulted 0
   exact 2
@@ -117,10 +117,10 @@ Parts that claim that no pair is admitted: what is joined claims what another pa
   keep 4 .1
   $ bash none.sh 01 .1 'time none' x 'f 2' 'f 4' 'k 2' 't 3 0' 'u 1' 'l 0 0 1 2' 'q none' > steps
   > bash none.sh 00 .1 'time none' none > least
-  $ tdelay join two.v steps least --second 0. --cert whole
+  $ tdelay join two.v steps least --second 0. --keep y=.1 --cert whole
   unit 1 ns
   defaulted 0
-  no admitted pair
+  none
   nodes 3
   second 0.
   keep 4 .1
@@ -130,10 +130,10 @@ Parts that claim that no pair is admitted: what is joined claims what another pa
   keep 4 .1
   $ sed -n '/^time/,$p' whole | paste -sd,
   time none,s 3,none,x,f 2,f 4,k 2,t 3 0,u 1,l 0 0 1 2,q none
-  $ sed 's/^l .*/l 0 0 1/' steps > hintless; tdelay join two.v hintless least --second 0.
+  $ sed 's/^l .*/l 0 0 1/' steps > hintless; tdelay join two.v hintless least --second 0. --keep y=.1
   tdelay: hintless: refused 10 BadStep line 18
   [4]
-  $ tdelay join two.v hintless least --second 0. --no-check
+  $ tdelay join two.v hintless least --second 0. --keep y=.1 --no-check
   unit 1 ns
   defaulted 0
   unchecked none
