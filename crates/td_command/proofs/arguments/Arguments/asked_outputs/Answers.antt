@@ -2,7 +2,7 @@ use Rattle.std.proofs.Common.{rules, ◌≡◌, OnOk, subst}
 use Rattle.clap.specs.Words.{Rule, rule_of}
 use Rattle.td_command.specs.CommandLine.{outputs_rule}
 use Rattle.td_command.specs.Telling.{TellsRule}
-use Rattle.td_command.proofs.shared.Arguments.asked_outputs.Goals as goal
+use Rattle.td_command.proofs.arguments.Arguments.asked_outputs.Goals as goal
 
 pub returns : goal.returns
 returns c =
