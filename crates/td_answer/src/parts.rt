@@ -15,7 +15,7 @@ use td_domain::Cube;
 use td_inputs::ByPlace;
 use td_lines::{Label, Line, Part, Report};
 use td_parts::cut;
-use td_question::{keep_words, question_of};
+use td_question::{question_of, words_of};
 use td_reading::Reading;
 use td_request::Parts;
 use td_search::{Problem, SearchFault};
@@ -237,7 +237,7 @@ pub(crate) fn parts<'n, 'w>(
     if cubes.is_empty() {
         return Err(Refusal::Search(WorstFault::Search(SearchFault::NoPair)));
     }
-    let keep = keep_words(alloc, asked.question.inputs.named)?;
+    let keep = words_of(alloc, asked.question.inputs.named)?;
     let said = Said {
         placed: &about.words,
         flips: asked.question.flips,

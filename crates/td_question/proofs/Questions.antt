@@ -22,7 +22,7 @@ use Rattle.td_gates.specs.declared.primitives.Level.{Level}
 use Rattle.td_question.specs.declared.vector.VectorWord.{VectorWord}
 use Rattle.td_question.specs.declared.vector.VectorWord.TheVariants.{At}
 use Rattle.td_question.specs.Vectors.{level_character, SpellsVector, VectorWords, IsFirstBad, AreMomentsOf, GivesMoments}
-use Rattle.td_question.specs.Asking.{most_flips, Admits, AreAdmitted, SayTogether, IsAsked, IsCube, IsPair, Pins, ArePinned, AreSpelled, IsWordFault, IsFaultOf, IsFaultOfAny, pair_words, placed_words}
+use Rattle.td_question.specs.Asking.{most_flips, Admits, AreAdmitted, SayTogether, IsAsked, IsCube, IsPair, Pins, ArePinned, AreSpelled, IsWordFault, IsFaultOf, IsFaultOfAny, IsKeepFault, IsQuestionFault, keep_words, pair_words, placed_words}
 use Rattle.td_question.specs.declared.fault.QuestionFault.{QuestionFault}
 use Rattle.td_question.specs.declared.fault.QuestionFault.TheVariants as fault
 use Rattle.td_question.proofs.Vectors.{given-length}
@@ -74,6 +74,32 @@ module _ (text : List ℕ) (reading : Reading) (question : Question) where
     admits = subst (λ (n : Netlist). Admits (length n.inputs) words question.flips admit) (sym are.is) are.admits;
   }
 
+  -- the same circuit and pairs are asked about
+  pub asked_same : (this other : Numbered) (one two : Admitted) → this ≡ other → one ≡ two → IsAsked text reading question (setting other) two
+      → IsAsked text reading question (setting this) one
+  asked_same this other one two same are is =
+      subst (λ (circuit : Numbered). IsAsked text reading question (setting circuit) one) (sym same)
+      (subst (λ (admit : Admitted). IsAsked text reading question (setting other) admit) (sym are) is)
+
+  -- a fault of the text or the words about inputs
+  pub pair_fault : (found : QuestionFault) → IsFaultOf text reading question.inputs placed_words found → IsQuestionFault text reading question found
+  pair_fault fault.OutOfMemory is = tt
+  pair_fault (fault.Source source) is = is
+  pair_fault (fault.BadName wrong names) is = is
+  pair_fault (fault.BadVector word) is = is
+  pair_fault (fault.BadKeep word) is = absurd is
+  pair_fault (fault.NoNet name) is = absurd is
+
+  -- a fault of the words of conditions, where the others ask something
+  pub keep_fault : (setting : Setting) (admit : Admitted) → IsAsked text reading question setting admit → (found : QuestionFault)
+      → IsKeepFault setting.netlist (keep_words question.inputs) found → IsQuestionFault text reading question found
+  keep_fault setting admit asked fault.OutOfMemory is = tt
+  keep_fault setting admit asked (fault.Source source) is = absurd is
+  keep_fault setting admit asked (fault.BadName wrong names) is = absurd is
+  keep_fault setting admit asked (fault.BadVector word) is = absurd is
+  keep_fault setting admit asked (fault.BadKeep word) is = record { setting = setting; admit = admit; asked = asked; first = is }
+  keep_fault setting admit asked (fault.NoNet name) is = record { setting = setting; admit = admit; asked = asked; first = is }
+
   -- the pairs are of the circuit's inputs
   pub asked_held : (setting : Setting) (admit : Admitted) → IsAsked text reading question setting admit → length admit.held ≡ length setting.netlist.inputs
   asked_held setting admit is = given-length _ _ _ _ _ is.admits.held
@@ -93,6 +119,8 @@ any_fault text reading inputs words_by fault.OutOfMemory is = tt
 any_fault text reading inputs words_by (fault.Source source) is = is
 any_fault text reading inputs words_by (fault.BadName wrong names) is = is
 any_fault text reading inputs words_by (fault.BadVector word) is = record { netlist = is.netlist; circuit = is.circuit; bad = inr is.unread }
+any_fault text reading inputs words_by (fault.BadKeep word) is = absurd is
+any_fault text reading inputs words_by (fault.NoNet name) is = absurd is
 
 module _ (text : List ℕ) (reading : Reading) (inputs : Inputs) (netlist : Netlist) (words : Placed) (circuit : HasCircuit text reading netlist)
     (together : SayTogether netlist inputs words) where
@@ -123,6 +151,8 @@ module _ (text : List ℕ) (reading : Reading) (inputs : Inputs) (netlist : Netl
   word_fault words_by (fault.Source source) is = absurd is
   word_fault words_by (fault.BadName wrong names) is = absurd is
   word_fault words_by (fault.BadVector word) is = record { netlist = netlist; circuit = circuit; bad = inl (words, together, is) }
+  word_fault words_by (fault.BadKeep word) is = absurd is
+  word_fault words_by (fault.NoNet name) is = absurd is
 
 -- of the pins of a cube there are two for each input
 pub pins_length : (count : ℕ) (words : Placed) (cube : List Trit) → Pins count words cube → length cube ≡ 2 * count

@@ -1,6 +1,6 @@
 -- Internal: conditions as they are found, by the names of nets and in order.
-use Rattle.std.specs.Prelude.{◌≡◌, ◌≢◌, ◌↔◌, ℕ, ◌+◌, ◌*◌, ◌<◌, ◌≤◌, nat_lt, Bool, true, List, [], ◌∷◌, ◌++◌, length, slice_index_or, position, Option, None, Some, if◌then◌else◌}
-use Rattle.std.specs.List.{Contains}
+use Rattle.std.specs.Prelude.{◌≡◌, ◌≢◌, ◌↔◌, ℕ, ◌⊎◌, ◌+◌, ◌-◌, ◌*◌, ◌<◌, ◌≤◌, true, List, [], ◌∷◌, ◌++◌, length, slice_get, slice_index_or, Option, None, Some}
+use Rattle.std.specs.List.{Contains, position_from}
 use Rattle.std.specs.Str.{bytes_eq}
 use Rattle.td_nets.specs.Netlist.{Name, Named, Netlist}
 use Rattle.td_nets.specs.Printed.{printed}
@@ -23,8 +23,9 @@ AreNames words names = (word name : List ℕ) (form : Form) → Contains words w
 
 -- ---- nets by their names
 
+-- the first place of a name
 abbrev pub place_in : List (List ℕ) → List ℕ → Option ℕ
-place_in names name = position (bytes_eq name) names
+place_in names name = position_from (bytes_eq name) 0 names
 
 abbrev pub number_at : List (Option ℕ) → Option ℕ → Option ℕ
 number_at numbers None = None
@@ -57,6 +58,16 @@ IsFound netlist name (Some number) = IsFirstNet netlist name number
 abbrev pub AreFound : Netlist → List (List ℕ) → List (Option ℕ) → Type 0
 AreFound netlist names numbers = (name : List ℕ) → Contains names name → IsFound netlist name (number_in names numbers name)
 
+-- the number of the first net, of those with numbers less than the count, that is printed so, if
+-- there is one
+abbrev pub IsFoundBefore : Netlist → ℕ → List ℕ → Option ℕ → Type 0
+IsFoundBefore netlist count name None = NoneBefore netlist name count
+IsFoundBefore netlist count name (Some number) = IsFirstNet netlist name number
+
+pub record AreFoundBefore (netlist : Netlist) (count : ℕ) (names : List (List ℕ)) (numbers : List (Option ℕ)) : Type 0 where
+  pub length_is : length numbers ≡ length names
+  pub each : (name : List ℕ) → Contains names name → IsFoundBefore netlist count name (number_in names numbers name)
+
 -- ---- conditions in order
 
 -- the condition that each word says
@@ -69,15 +80,31 @@ AreSaid netlist words said = ⊥
 abbrev pub condition_order : NamedCondition → ℕ
 condition_order condition = 65536 * condition.net + form_order condition.form
 
--- the condition after these, if it stands behind the last one
-abbrev pub with_next : List NamedCondition → NamedCondition → List NamedCondition
-with_next [] next = next ∷ []
-with_next (last ∷ []) next = if nat_lt (condition_order last) (condition_order next) then last ∷ next ∷ [] else last ∷ []
-with_next (this ∷ that ∷ kept) next = this ∷ with_next (that ∷ kept) next
+abbrev pub IsLastOf : List NamedCondition → NamedCondition → Type 0
+IsLastOf kept last = slice_get kept (length kept - 1) ≡ Some last
+
+-- the condition is added to those that are kept, where it stands behind the last one
+abbrev pub IsPushed : List NamedCondition → NamedCondition → List NamedCondition → Type 0
+IsPushed old next new =
+    ((new ≡ old) × ((last : NamedCondition) × IsLastOf old last × (condition_order next ≤ condition_order last)))
+    ⊎ ((new ≡ old ++ next ∷ []) × ((last : NamedCondition) → IsLastOf old last → condition_order last < condition_order next))
 
 -- each condition is on an input or a gate's output
 abbrev pub AreOnNets : ℕ → List NamedCondition → Type 0
 AreOnNets count said = (condition : NamedCondition) → Contains said condition → (2 ≤ condition.net) × (condition.net < count)
+
+-- the last of the conditions that are kept is the one before this place of the sorted ones
+abbrev pub IsLastBefore : List NamedCondition → ℕ → List NamedCondition → Type 0
+IsLastBefore sorted place kept =
+    ((kept ≡ []) × (place ≡ 0))
+    ⊎ ((last : NamedCondition) × (i : ℕ) × IsLastOf kept last × (place ≡ i + 1) × (slice_get sorted i ≡ Some last))
+
+-- the sorted conditions before this place, each once, in order
+pub record IsKeptTo (sorted : List NamedCondition) (place : ℕ) (kept : List NamedCondition) : Type 0 where
+  pub rising : (count : ℕ) → AreOnNets count sorted → are_fit count kept ≡ true
+  pub last : IsLastBefore sorted place kept
+  pub from : (condition : NamedCondition) → Contains kept condition → Contains sorted condition
+  pub each : (i : ℕ) (condition : NamedCondition) → i < place → slice_get sorted i ≡ Some condition → Contains kept condition
 
 -- the same conditions, each once, in the order of a certificate
 pub record AreInOrder (said keep : List NamedCondition) : Type 0 where

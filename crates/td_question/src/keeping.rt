@@ -1,6 +1,6 @@
 //! Conditions on nets, as words of the command line say them.
 
-ghost use Rattle.std.specs.Prelude.{◌≡◌, ◌∷◌, [], ℕ, List, map, IfOk, IfErr, IfSome, IfNone};
+ghost use Rattle.std.specs.Prelude.{◌≡◌, ◌∷◌, ◌++◌, [], ℕ, List, map, OnOk, IfOk, IfErr, IfSome, IfNone};
 ghost use Rattle.td_gates.specs.declared.primitives.Level.{Level as LevelModel};
 ghost use Rattle.td_nets.specs.Netlist.{Netlist};
 ghost use Rattle.td_inputs.specs.Readings.{same_topic};
@@ -95,17 +95,37 @@ fn is_keep(topic: Topic) -> bool
     }
 }
 
+/// Adds the word, if it is one of a condition. The error is out of memory.
+fn push_word<'w>(words: &mut Vec<&'w [u8]>, taken: Taken<'w>) -> Result<(), AllocError>
+    ensures { OnOk result (map (λ word. word.now) words.new.items ≡ map (λ word. word.now) words.old.items ++ keep_texts (taken_in taken.entry ∷ [])) }
+{
+    if !is_keep(taken.topic) {
+        return Ok(());
+    }
+    words.push(taken.text)?;
+    Ok(())
+}
+
 /// The words of conditions, in order. The error is out of memory.
-pub fn keep_words<'w>(alloc: Global, named: &[Taken<'w>]) -> Result<Vec<&'w [u8]>, AllocError>
+pub fn words_of<'w>(alloc: Global, named: &[Taken<'w>]) -> Result<Vec<&'w [u8]>, AllocError>
     ensures { IfOk result (λ words. map (λ word. word.now) words.items ≡ keep_texts (map taken_in named.now)) }
 {
     let mut words = Vec::new(alloc);
     for taken in named {
-        if is_keep(taken.topic) {
-            words.push(taken.text)?;
-        }
+        push_word(&mut words, *taken)?;
     }
     Ok(words)
+}
+
+/// Adds the name of a net in a word, if there is one. The error is out of memory.
+fn add_name<'w>(names: &mut NetNames<'w>, word: &'w [u8]) -> Result<(), AllocError>
+    ensures { OnOk result ((words : List (List ℕ)) → AreNames words names.old → AreNames (words ++ word.now ∷ []) names.new) }
+{
+    let Some(parts) = parts_of(word) else {
+        return Ok(());
+    };
+    names.add(parts.name)?;
+    Ok(())
 }
 
 /// The names of nets in words. The error is out of memory.
@@ -114,9 +134,7 @@ fn names_of<'w>(alloc: Global, words: &[&'w [u8]]) -> Result<NetNames<'w>, Alloc
 {
     let mut names = NetNames::new(alloc);
     for word in words {
-        if let Some(parts) = parts_of(word) {
-            names.add(parts.name)?;
-        }
+        add_name(&mut names, word)?;
     }
     Ok(names)
 }
@@ -164,6 +182,27 @@ fn said_by<'w>(
     Ok(Ok(said))
 }
 
+/// The conditions that words say on nets of a circuit, each once, in the order of a certificate; or
+/// what is wrong with the first of the words that says none. The error is out of memory.
+fn conditions_by<'w>(
+    alloc: Global,
+    circuit: &Circuit,
+    words: &[&'w [u8]],
+) -> Result<Result<Vec<NamedCondition>, KeepFault<'w>>, AllocError>
+    ensures keep { IfOk result (λ reported. IfOk reported (λ keep. AreConditions circuit.now.netlist (map (λ word. word.now) words.now) keep.items)) }
+    ensures fault { IfOk result (λ reported. IfErr reported (IsFirstFault circuit.now.netlist (map (λ word. word.now) words.now))) }
+{
+    let names = names_of(alloc, words)?;
+    let numbers = numbers_of(alloc, circuit, &names)?;
+    match said_by(alloc, &names, &numbers, words)? {
+        Ok(said) => {
+            let keep = in_order(alloc, said)?;
+            Ok(Ok(keep))
+        }
+        Err(fault) => Ok(Err(fault)),
+    }
+}
+
 /// The conditions that words of options by name say on nets of a circuit, each once, in the order
 /// of a certificate; or what is wrong with the first of the words that says none. The error is out
 /// of memory.
@@ -175,14 +214,6 @@ pub(crate) fn conditions_of<'w>(
     ensures keep { IfOk result (λ reported. IfOk reported (λ keep. AreConditions circuit.now.netlist (keep_texts (map taken_in named.now)) keep.items)) }
     ensures fault { IfOk result (λ reported. IfErr reported (IsFirstFault circuit.now.netlist (keep_texts (map taken_in named.now)))) }
 {
-    let words = keep_words(alloc, named)?;
-    let names = names_of(alloc, &words)?;
-    let numbers = numbers_of(alloc, circuit, &names)?;
-    match said_by(alloc, &names, &numbers, &words)? {
-        Ok(said) => {
-            let keep = in_order(alloc, said)?;
-            Ok(Ok(keep))
-        }
-        Err(fault) => Ok(Err(fault)),
-    }
+    let words = words_of(alloc, named)?;
+    conditions_by(alloc, circuit, &words)
 }

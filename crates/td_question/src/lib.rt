@@ -20,5 +20,5 @@ pub mod vector;
 pub use asking::{Asked, question_of};
 pub use cube::{CubeAsked, cube_of};
 pub use fault::QuestionFault;
-pub use keeping::keep_words;
+pub use keeping::words_of;
 pub use pair::{PairAsked, pair_of};

@@ -1,6 +1,6 @@
 //! Nets by the names that reports print.
 
-ghost use Rattle.std.specs.Prelude.{◌≡◌, ◌<◌, ◌≤◌, ◌×◌, [], length, Some, OnOk, IfOk};
+ghost use Rattle.std.specs.Prelude.{◌≡◌, ◌<◌, ◌≤◌, [], length, replicate, None, Some, OnOk, IfOk};
 ghost use Rattle.std.specs.List.{Contains};
 ghost use Rattle.td_nets.specs.Netlist.{Named};
 ghost use Rattle.td_question.specs.Keeping.{count_nets};
@@ -74,11 +74,22 @@ fn print_net(circuit: &Circuit, number: u64, text: &mut Vec<u8>) -> Result<(), A
     requires within { number < count_nets circuit.now.netlist }
     ensures { OnOk result (IsPrinted circuit.now.netlist number text.new.items) }
 {
+    // For the prover: this call says how the nets have their numbers.
+    let _gates = circuit.gates();
     text.clear();
     match net_named(circuit, number) {
         None => Ok(()),
         Some(net) => circuit.name(net as usize).print(text),
     }
+}
+
+/// The number of nets, the two constants among them.
+fn count_nets(circuit: &Circuit) -> usize
+    ensures { result ≡ count_nets circuit.now.netlist }
+{
+    // For the prover: this call says how the nets have their numbers.
+    let _gates = circuit.gates();
+    circuit.net_count()
 }
 
 /// Notes the number of a net for the name that it is printed by, where no earlier net is.
@@ -94,6 +105,17 @@ fn note(names: &NetNames<'_>, text: &[u8], number: u64, numbers: &mut Vec<Option
     }
 }
 
+/// No number for each of that many names. The error is out of memory.
+fn no_numbers(alloc: Global, count: usize) -> Result<Vec<Option<u64>>, AllocError>
+    ensures { IfOk result (λ numbers. numbers.items ≡ replicate count None) }
+{
+    let mut numbers = Vec::new(alloc);
+    for _name in 0..count {
+        numbers.push(None)?;
+    }
+    Ok(numbers)
+}
+
 /// For each name the number of the first net that reports print so, if there is one. The error is
 /// out of memory.
 pub(crate) fn numbers_of(
@@ -103,12 +125,12 @@ pub(crate) fn numbers_of(
 ) -> Result<Vec<Option<u64>>, AllocError>
     ensures { IfOk result (λ numbers. AreFound circuit.now.netlist names.now numbers.items) }
 {
-    let mut numbers = vec![in alloc; None; names.len()]?;
+    let mut numbers = no_numbers(alloc, names.len())?;
     if names.len() == 0 {
         return Ok(numbers);
     }
     let mut text = Vec::new(alloc);
-    for number in 2..circuit.net_count() {
+    for number in 2..count_nets(circuit) {
         print_net(circuit, number as u64, &mut text)?;
         note(names, &text, number as u64, &mut numbers);
     }

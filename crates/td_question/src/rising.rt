@@ -1,9 +1,10 @@
 //! Conditions in the order of a certificate.
 
-ghost use Rattle.std.specs.Prelude.{◌≡◌, OnOk, IfOk};
+ghost use Rattle.std.specs.Prelude.{◌≡◌, length, OnOk, IfOk};
+ghost use Rattle.std.specs.List.Sorted.{IsNonDecreasingBy};
 ghost use Rattle.td_certificate.specs.Accepts.{form_order};
 ghost use Rattle.td_certificate.specs.Text.{level_byte};
-ghost use Rattle.td_question.specs.Found.{condition_order, AreInOrder, with_next};
+ghost use Rattle.td_question.specs.Found.{condition_order, AreInOrder, IsKeptTo, IsPushed};
 
 use std::alloc::{AllocError, Global};
 use td_gates::Level;
@@ -41,7 +42,7 @@ fn order_of(condition: &NamedCondition) -> u128
 
 /// Adds a condition that stands behind the last one. The error is out of memory.
 fn push_next(kept: &mut Vec<NamedCondition>, condition: NamedCondition) -> Result<(), AllocError>
-    ensures { OnOk result (kept.new.items ≡ with_next kept.old.items condition) }
+    ensures { OnOk result (IsPushed kept.old.items condition kept.new.items) }
 {
     if let Some(last) = kept.last() {
         if order_of(&condition) <= order_of(last) {
@@ -50,6 +51,18 @@ fn push_next(kept: &mut Vec<NamedCondition>, condition: NamedCondition) -> Resul
     }
     kept.push(condition)?;
     Ok(())
+}
+
+/// Sorted conditions, each once. The error is out of memory.
+fn once(alloc: Global, sorted: &[NamedCondition]) -> Result<Vec<NamedCondition>, AllocError>
+    requires { IsNonDecreasingBy condition_order sorted.now }
+    ensures { IfOk result (λ kept. IsKeptTo sorted.now (length sorted.now) kept.items) }
+{
+    let mut kept = Vec::new(alloc);
+    for condition in sorted {
+        push_next(&mut kept, *condition)?;
+    }
+    Ok(kept)
 }
 
 /// These conditions, each once, in the order of a certificate. The error is out of memory.
@@ -61,9 +74,5 @@ pub(crate) fn in_order(
 {
     let mut sorted = said;
     sorted.sort_unstable_by_key(|condition| order_of(condition));
-    let mut kept = Vec::new(alloc);
-    for condition in sorted.as_slice() {
-        push_next(&mut kept, *condition)?;
-    }
-    Ok(kept)
+    once(alloc, &sorted)
 }
