@@ -26,7 +26,7 @@ texts_append (taken ∷ before) after = append_if (same_topic Keep taken.topic) 
   where
     append_if : (b : Bool) → keep_texts (before ++ after) ≡ keep_texts before ++ keep_texts after
         → (if b then taken.text ∷ keep_texts (before ++ after) else keep_texts (before ++ after))
-          ≡ (if b then taken.text ∷ keep_texts before else keep_texts before) ++ keep_texts after
+        ≡ (if b then taken.text ∷ keep_texts before else keep_texts before) ++ keep_texts after
     append_if true same = ap (λ (texts : List (List ℕ)). taken.text ∷ texts) same
     append_if false same = same
 

@@ -69,7 +69,7 @@ no_parts_in word i j d e long next none other name form parts =
 pub one_name : (word one other : List ℕ) (this that : Form) → HasParts word one this → HasParts word other that → one ≡ other
 one_name word one other (Levels a b) (Levels c d) this that =
     let front = (ends_same (one ++ 61 ∷ []) (other ++ 61 ∷ []) (level_byte a ∷ level_byte b ∷ []) (level_byte c ∷ level_byte d ∷ []) refl
-      (sym this.spelled ∙ that.spelled)).0 in
+    (sym this.spelled ∙ that.spelled)).0 in
     (ends_same one other (61 ∷ []) (61 ∷ []) refl front).0
 one_name word one other Equal Equal this that = (ends_same one other (61 ∷ 61 ∷ []) (61 ∷ 61 ∷ []) refl (sym this.spelled ∙ that.spelled)).0
 one_name word one other Equal (Levels c d) this that =

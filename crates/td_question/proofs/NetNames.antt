@@ -125,8 +125,8 @@ module _ (names : List (List ℕ)) (text : List ℕ) (number p : ℕ) (is : plac
   noted_earlier numbers earlier at = record {
     count = refl;
     here = λ has. (
-      let known : number_in names numbers text ≡ Some earlier = ap (number_at numbers) is ∙ at in
-      known ∙ sym (ap (λ (o : Option ℕ). or_number o number) known));
+        let known : number_in names numbers text ≡ Some earlier = ap (number_at numbers) is ∙ at in
+        known ∙ sym (ap (λ (o : Option ℕ). or_number o number) known));
     others = λ name other. refl;
   }
 
@@ -147,7 +147,7 @@ module _ (names : List (List ℕ)) (text : List ℕ) (number p : ℕ) (is : plac
           ap (λ (l : List (Option ℕ)). slice_index_or l q None) set
           ∙ get_or-set_other old p q (Some number) None
           (λ same. other (some-same name text (sym (place_is names name q at)
-            ∙ subst (λ (k : ℕ). slice_get names k ≡ Some text) (sym same) (place_is names text p is))))
+          ∙ subst (λ (k : ℕ). slice_get names k ≡ Some text) (sym same) (place_is names text p is))))
 
 -- ---- what is found
 

@@ -198,8 +198,8 @@ in_order said sorted keep place moved end is = record {
   same = λ c. (
     λ has. Contains-permutation sorted said c (IsPermutation-sym said sorted moved) (is.from c has),
     λ has.
-      let at = Contains-slice_get sorted c (Contains-permutation said sorted c moved has) in
-      is.each at.0 c (omega (arith, slice_get-some sorted at.0 c at.1, end)) at.1,
+        let at = Contains-slice_get sorted c (Contains-permutation said sorted c moved has) in
+        is.each at.0 c (omega (arith, slice_get-some sorted at.0 c at.1, end)) at.1,
   );
 }
 

@@ -9,7 +9,9 @@ returns-in-Some-number_of-clause-said c netlist found =
 
 pub returns-in-None-clause-fault : goal.returns-in-None-clause-fault
 returns-in-None-clause-fault c netlist found =
-    let parts = rw c.in-Some.is at c.parts_of.ensures.some in
-    (c.in-Some.parts.form, parts,
+    let parts = rw c.in-Some.is at c.parts_of.ensures.some in (
+      c.in-Some.parts.form,
+      parts,
       no_net netlist c.args.names.now c.args.numbers.now c.args.word.now c.in-Some.parts.name.now c.in-Some.parts.form c.requires
-      parts found (sym c.number_of.ensures ∙ c.in-None.is))
+          parts found (sym c.number_of.ensures ∙ c.in-None.is),
+    )

@@ -8,13 +8,21 @@ returns-in_default c = noted_none c.args.names.now c.args.text.now c.args.number
 
 pub index-requires : goal.index-requires
 index-requires c =
-    omega (arith, c.requires, c.args.numbers.now.ok,
-      place_within c.args.names.now c.args.text.now c.in-Some.place (sym c.place_of.ensures ∙ c.in-Some.is))
+    omega (
+      arith,
+      c.requires,
+      c.args.numbers.now.ok,
+      place_within c.args.names.now c.args.text.now c.in-Some.place (sym c.place_of.ensures ∙ c.in-Some.is),
+    )
 
 pub index_mut-requires : goal.index_mut-requires
 index_mut-requires c =
-    omega (arith, c.requires, c.args.numbers.now.ok,
-      place_within c.args.names.now c.args.text.now c.in-Some.place (sym c.place_of.ensures ∙ c.in-Some.is))
+    omega (
+      arith,
+      c.requires,
+      c.args.numbers.now.ok,
+      place_within c.args.names.now c.args.text.now c.in-Some.place (sym c.place_of.ensures ∙ c.in-Some.is),
+    )
 
 pub returns-then-is_none : goal.returns-then-is_none
 returns-then-is_none c =

@@ -4,11 +4,14 @@ use Rattle.td_question.proofs.rising.push_next.Goals.{in-Some+else-order_of, in_
 use Rattle.td_question.proofs.rising.push_next.Goals as goal
 
 pub returns-then-order_of : goal.returns-then-order_of
-returns-then-order_of c = inl (refl, (
-  c.in-Some.last.now,
-  last_is _ c.args.kept.now.items c.in-Some.last.now c.deref.ensures.value (rw c.in-Some.is at c.last.ensures.value),
-  omega (arith, c.if-order_of.true, c.order_of.ensures, c.order_of-in-Some.ensures),
-))
+returns-then-order_of c = inl (
+  refl,
+  (
+    c.in-Some.last.now,
+    last_is _ c.args.kept.now.items c.in-Some.last.now c.deref.ensures.value (rw c.in-Some.is at c.last.ensures.value),
+    omega (arith, c.if-order_of.true, c.order_of.ensures, c.order_of-in-Some.ensures),
+  ),
+)
 
 pub returns : goal.returns
 returns c = inr (
