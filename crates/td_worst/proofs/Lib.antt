@@ -4,3 +4,4 @@ mod KeptLeaves
 mod EdgeLeaves
 mod Edged
 mod Standings
+mod KeptStandings
