@@ -54,3 +54,11 @@ dumped_written is_asked setting IsRun outcome none dumped = record {
   certificate = none_spelled outcome.certificate none;
   dump = dump_written is_asked setting IsRun outcome.dump dumped;
 }
+
+-- a certificate with a text, and the dump that is asked for
+pub certificate_and_dump : (is_asked : Bool) (setting : Setting) (IsRun : (Net → Wave) → Type 0) (certificate : Certificate) (outcome : Outcome)
+    → outcome.certificate ≡ Some certificate → HasSpelling certificate → IsDumpWhere is_asked setting IsRun outcome.dump → CanBeWritten outcome
+certificate_and_dump is_asked setting IsRun certificate outcome has spelled dumped = record {
+  certificate = subst (λ (c : Option Certificate). IfSome c HasSpelling) (sym has) spelled;
+  dump = dump_written is_asked setting IsRun outcome.dump dumped;
+}

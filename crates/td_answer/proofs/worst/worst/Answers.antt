@@ -1,5 +1,6 @@
-use Rattle.std.proofs.Common.{inr, subst, refl}
-use Rattle.std.proofs.lemmas.Result.{err_from_is_err_and}
+use Rattle.std.proofs.Common.{◌∙◌, inr, subst, refl, sym, ap, length}
+use Rattle.std.proofs.lemmas.Bool.{eqb-false, eqb-true}
+use Rattle.std.proofs.lemmas.Result.{err_from_is_err_and, IfOk-weaker}
 use Rattle.td_circuit.specs.Numbering.{setting}
 use Rattle.td_search.specs.Problems.{problem_by}
 use Rattle.td_search.specs.declared.strategy.Strategy.{Strategy}
@@ -8,9 +9,13 @@ use Rattle.td_worst.proofs.Outcomes.{outcome_by}
 use Rattle.td_question.proofs.Questions.{asked_held, asked_flips}
 use Rattle.td_answer.specs.Certificates.{read_by, CanBeTold}
 use Rattle.std.specs.Prelude.{is_some}
+use Rattle.td_answer.specs.Conditions.{IsTrueSearch, IsCertifiedFor}
+use Rattle.td_answer.specs.Kept.{IsTrueKept, IsCertifiedAmong}
 use Rattle.td_answer.specs.Lines.{pair_in}
 use Rattle.td_answer.specs.Runs.{RunsPair}
 use Rattle.td_answer.proofs.Writable.{searched_written}
+use Rattle.td_answer.proofs.Listing.{no_rows}
+use Rattle.td_answer.proofs.Chosen.{without, with_some, true_without, true_with, certified_without, certified_with}
 use Rattle.td_answer.proofs.Searched.{pair_fits, says, certified, refused}
 use Rattle.td_answer.proofs.worst.worst.Goals as goal
 
@@ -38,26 +43,36 @@ returns-in_err-answer-clause-refusal g c =
 
 pub returns-clause-says : goal.returns-clause-says
 returns-clause-says g c =
-    says c.args.text.now c.args.reading.now c.args.search.now c.in_ok-asked.asked.circuit c.in_ok-asked.asked.admit (tree_of c.method_of-method.result)
+    true_without c.args.text.now c.args.reading.now c.args.search.now c.in_ok-outcome.outcome (without c.args.search.now.question c.in_ok-asked.asked.circuit.netlist c.in_ok-asked.asked.keep.items c.in_ok-asked.ensures.keep
+    (no_rows c.in_ok-asked.asked.keep.items (sym c.in_ok-asked.asked.keep.ok.0 ∙ eqb-true _ _ (sym c.is_empty.ensures ∙ c.if-not-is_empty.false))))
+    (says c.args.text.now c.args.reading.now c.args.search.now c.in_ok-asked.asked.circuit c.in_ok-asked.asked.admit (tree_of c.method_of-method.result)
     c.in_ok-asked.ensures.asked c.effort_of-effort.result.effort.budget c.in_ok-answer.answer c.in_ok-outcome.outcome
     (outcome_by c.method_of-method.result _ c.effort_of-effort.result.effort.budget c.in_ok-answer.answer c.in_ok-answer.ensures.answer)
-    c.in_ok-outcome.ensures.report c.in_ok-outcome.ensures.status c.in_ok-outcome.ensures.dumped
+    c.in_ok-outcome.ensures.report c.in_ok-outcome.ensures.status c.in_ok-outcome.ensures.dumped)
 
 pub returns-clause-certified : goal.returns-clause-certified
 returns-clause-certified g c =
-    certified c.args.text.now c.args.reading.now c.args.search.now c.in_ok-asked.asked.circuit c.in_ok-asked.asked.admit (tree_of c.method_of-method.result)
+    certified_without c.args.text.now c.args.reading.now c.args.search.now.question c.in_ok-outcome.outcome (without c.args.search.now.question c.in_ok-asked.asked.circuit.netlist c.in_ok-asked.asked.keep.items c.in_ok-asked.ensures.keep
+    (no_rows c.in_ok-asked.asked.keep.items (sym c.in_ok-asked.asked.keep.ok.0 ∙ eqb-true _ _ (sym c.is_empty.ensures ∙ c.if-not-is_empty.false))))
+    (certified c.args.text.now c.args.reading.now c.args.search.now c.in_ok-asked.asked.circuit c.in_ok-asked.asked.admit (tree_of c.method_of-method.result)
     c.in_ok-asked.ensures.asked c.effort_of-effort.result.effort.budget (read_by c.args.reading.now.default c.in_ok-asked.asked.outputs) c.in_ok-answer.answer c.in_ok-outcome.outcome refl c.in_ok-asked.ensures.outputs
     (outcome_by c.method_of-method.result _ c.effort_of-effort.result.effort.budget c.in_ok-answer.answer c.in_ok-answer.ensures.answer)
     c.in_ok-answer.ensures.text
     (subst (λ (s : Strategy). CanBeTold (read_by c.args.reading.now.default c.in_ok-asked.asked.outputs) s c.in_ok-answer.answer) c.strategy.ensures c.in_ok-outcome.ensures.told)
     c.in_ok-outcome.ensures.report c.in_ok-outcome.ensures.status
-    (rw c.strategy.ensures at c.in_ok-outcome.ensures.certified)
+    (rw c.strategy.ensures at c.in_ok-outcome.ensures.certified))
 
 pub returns-clause-written : goal.returns-clause-written
 returns-clause-written g c =
     searched_written c.args.text.now c.args.reading.now c.args.search.now.question (is_some c.args.search.now.dump) (setting c.in_ok-asked.asked.circuit)
     (RunsPair (setting c.in_ok-asked.asked.circuit) (pair_in c.in_ok-answer.answer)) c.in_ok-outcome.outcome
-    (returns-clause-certified g c) c.in_ok-outcome.ensures.dumped
+    (certified c.args.text.now c.args.reading.now c.args.search.now c.in_ok-asked.asked.circuit c.in_ok-asked.asked.admit (tree_of c.method_of-method.result)
+    c.in_ok-asked.ensures.asked c.effort_of-effort.result.effort.budget (read_by c.args.reading.now.default c.in_ok-asked.asked.outputs) c.in_ok-answer.answer c.in_ok-outcome.outcome refl c.in_ok-asked.ensures.outputs
+    (outcome_by c.method_of-method.result _ c.effort_of-effort.result.effort.budget c.in_ok-answer.answer c.in_ok-answer.ensures.answer)
+    c.in_ok-answer.ensures.text
+    (subst (λ (s : Strategy). CanBeTold (read_by c.args.reading.now.default c.in_ok-asked.asked.outputs) s c.in_ok-answer.answer) c.strategy.ensures c.in_ok-outcome.ensures.told)
+    c.in_ok-outcome.ensures.report c.in_ok-outcome.ensures.status
+    (rw c.strategy.ensures at c.in_ok-outcome.ensures.certified)) c.in_ok-outcome.ensures.dumped
 
 pub returns-clause-reported : goal.returns-clause-reported
 returns-clause-reported g c =
@@ -70,3 +85,21 @@ returns-in_err-answer-clause-reported g c =
 pub returns-in_err-outcome-clause-reported : goal.returns-in_err-outcome-clause-reported
 returns-in_err-outcome-clause-reported g c =
     inr (problem_by (tree_of c.method_of-method.result) c.in_ok-asked.asked.circuit c.in_ok-asked.asked.admit, c.in_ok-asked.ensures.asked, c.in_ok-answer.ensures.reported)
+
+pub returns-then-not-is_empty-clause-says : goal.returns-then-not-is_empty-clause-says
+returns-then-not-is_empty-clause-says g c =
+    IfOk-weaker c.worst_kept.result (IsTrueKept c.args.text.now c.args.reading.now c.args.search.now) (IsTrueSearch c.args.text.now c.args.reading.now c.args.search.now)
+    (λ outcome is. true_with c.args.text.now c.args.reading.now c.args.search.now outcome
+    (with_some c.args.search.now.question c.in_ok-asked.asked.circuit.netlist c.in_ok-asked.asked.keep.items c.in_ok-asked.ensures.keep
+    (λ none. eqb-false _ _ (sym c.is_empty.ensures ∙ c.if-not-is_empty.true) (c.in_ok-asked.asked.keep.ok.0 ∙ ap (λ keep. length keep) none))) is)
+    c.worst_kept.ensures.says
+
+pub returns-then-not-is_empty-clause-certified : goal.returns-then-not-is_empty-clause-certified
+returns-then-not-is_empty-clause-certified g c =
+    IfOk-weaker c.worst_kept.result
+    (λ outcome. IsCertifiedAmong c.args.text.now c.args.reading.now c.args.search.now.question outcome.report outcome.certificate outcome.status)
+    (λ outcome. IsCertifiedFor c.args.text.now c.args.reading.now c.args.search.now.question outcome.report outcome.certificate outcome.status)
+    (λ outcome is. certified_with c.args.text.now c.args.reading.now c.args.search.now.question outcome
+    (with_some c.args.search.now.question c.in_ok-asked.asked.circuit.netlist c.in_ok-asked.asked.keep.items c.in_ok-asked.ensures.keep
+    (λ none. eqb-false _ _ (sym c.is_empty.ensures ∙ c.if-not-is_empty.true) (c.in_ok-asked.asked.keep.ok.0 ∙ ap (λ keep. length keep) none))) is)
+    c.worst_kept.ensures.certified
