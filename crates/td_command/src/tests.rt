@@ -28,10 +28,10 @@ fn conditions(alloc: Global, words: &[&str]) -> Result<Option<usize>, AllocError
 
 /// How many of these are conditions on nets.
 fn count(named: &[Taken<'_>]) -> usize {
-    let mut found = 0;
+    let mut found = 0_usize;
     for taken in named {
         if taken.topic == Topic::Keep {
-            found += 1;
+            found = found.saturating_add(1);
         }
     }
     found
