@@ -9,7 +9,7 @@ use Rattle.td_netlist.specs.declared.fault.Fault.{Fault}
 use Rattle.td_netlist.specs.declared.fault.FaultKind.{FaultKind}
 use Rattle.td_netlist.specs.declared.fault.FaultKind.TheVariants as kind
 use Rattle.td_inputs.specs.declared.topic.Topic.{Topic}
-use Rattle.td_inputs.specs.declared.topic.Topic.TheVariants.{First, Second, Hold, At, Pin, HoldInput}
+use Rattle.td_inputs.specs.declared.topic.Topic.TheVariants.{First, Second, Hold, At, Pin, HoldInput, Keep}
 use Rattle.td_inputs.specs.Labels.{Label, label_in}
 use Rattle.td_inputs.specs.Readings.{Fault as WordFault, Bad, Clash, NoInput, TwoForms, fault_in}
 use Rattle.td_domain.specs.declared.cubes.Trit.{Trit}
@@ -55,6 +55,7 @@ called Hold = codes "time "
 called At = codes "time "
 called Pin = codes "pin "
 called HoldInput = codes "held input "
+called Keep = codes "time "
 
 abbrev pub input_text : Option Label → List ℕ
 input_text None = []
