@@ -11,7 +11,7 @@ use std::time::Clock;
 use td_answer::{Outcome, Refusal, Status, Texts, answer};
 use td_certificate::write;
 use td_gates::Delay;
-use td_inputs::Given;
+use td_inputs::{Given, Taken, Topic};
 use td_lines::{Text, print_text};
 use td_pool::Unwatched;
 use td_reading::{Reading, Told};
@@ -59,6 +59,27 @@ const BESIDE: Shown = Shown {
     outputs: true,
     progress: false,
 };
+
+/// Conditions on the first input, which contradict each other.
+const FALLS: [Taken<'static>; 2] = [
+    Taken {
+        topic: Topic::Keep,
+        text: b"a=01",
+    },
+    Taken {
+        topic: Topic::Keep,
+        text: b"a=.0",
+    },
+];
+
+/// The question about pairs that keep this, with at most so many flips.
+fn flipped(named: &'static [Taken<'static>], flips: u64) -> Question<'static> {
+    let Inputs { given, .. } = pinned(None);
+    Question {
+        inputs: Inputs { given, named },
+        flips: Some(flips),
+    }
+}
 
 /// Words that pin the first vector.
 fn pinned(first: Option<&'static str>) -> Inputs<'static> {
@@ -177,18 +198,14 @@ fn checked() -> Command<'static> {
     })
 }
 
-/// Parts of these files, with at most so many flips.
+/// Parts of these files, of a question.
 fn joined(
     alloc: Global,
     names: &[&'static str],
     check: bool,
-    flips: u64,
+    question: Question<'static>,
 ) -> Result<Command<'static>, Fail> {
     let names = Vec::from_slice(alloc, names)?;
-    let question = Question {
-        inputs: pinned(None),
-        flips: Some(flips),
-    };
     Ok(Command::Join(Join {
         parts: Files::new(names),
         question,
@@ -296,26 +313,26 @@ fn joins(rt: HostRuntime) -> Result<(), Fail> {
     let mut texts = Vec::new(alloc);
     push_certificate(&rt, alloc, Some("0."), &mut texts)?;
     let missing = b"tdelay: cannot read p1\n";
-    let both = joined(alloc, &["p0", "p1"], true, 2)?;
+    let both = joined(alloc, &["p0", "p1"], true, flipped(&[], 2))?;
     assert!(rt; says(&rt, alloc, both, &texts, Status::Device, missing)?);
     push_certificate(&rt, alloc, Some("1."), &mut texts)?;
     let report = b"unit 1 ns\ndefaulted 0\nexact 5\nfrom 01\nto 00\nnodes 15\n";
-    let both = joined(alloc, &["p0", "p1"], true, 2)?;
+    let both = joined(alloc, &["p0", "p1"], true, flipped(&[], 2))?;
     assert!(rt; says(&rt, alloc, both, &texts, Status::Done, report)?);
     let unchecked = b"unit 1 ns\ndefaulted 0\nunchecked 5\nfrom 01\nto 00\nnodes 15\n";
-    let both = joined(alloc, &["p0", "p1"], false, 2)?;
+    let both = joined(alloc, &["p0", "p1"], false, flipped(&[], 2))?;
     assert!(rt; says(&rt, alloc, both, &texts, Status::Done, unchecked)?);
     let gap = b"tdelay: no part for --first 1. --second ..\n";
-    let one = joined(alloc, &["p0"], true, 2)?;
+    let one = joined(alloc, &["p0"], true, flipped(&[], 2))?;
     assert!(rt; says(&rt, alloc, one, &texts, Status::Rejected, gap)?);
     let other = b"tdelay: parts of another question: other flips\n";
-    let both = joined(alloc, &["p0", "p1"], true, 1)?;
+    let both = joined(alloc, &["p0", "p1"], true, flipped(&[], 1))?;
     assert!(rt; says(&rt, alloc, both, &texts, Status::Rejected, other)?);
     let mut same = Vec::new(alloc);
     push_certificate(&rt, alloc, Some("0."), &mut same)?;
     push_certificate(&rt, alloc, Some("0."), &mut same)?;
     let overlap = b"tdelay: cannot join p0 and p0: a pair in both\n";
-    let both = joined(alloc, &["p0", "p0"], false, 2)?;
+    let both = joined(alloc, &["p0", "p0"], false, flipped(&[], 2))?;
     assert!(rt; says(&rt, alloc, both, &same, Status::Rejected, overlap)?);
     Ok(())
 }
@@ -329,8 +346,8 @@ fn claims_no_pair(rt: HostRuntime) -> Result<(), Fail> {
     let never = b"accepted none\nsecond 0.\nkeep 2 .0 2 01\n";
     assert!(rt; says(&rt, alloc, checked(), &texts, Status::Done, never)?);
     texts.push(Vec::from_slice(alloc, NEVER[1])?)?;
-    let both = joined(alloc, &["p0", "p1"], true, 2)?;
-    let report = b"unit 1 ns\ndefaulted 0\nno admitted pair\nnodes 3\nkeep 2 .0 2 01\n";
+    let both = joined(alloc, &["p0", "p1"], true, flipped(&FALLS, 2))?;
+    let report = b"unit 1 ns\ndefaulted 0\nnone\nnodes 3\nkeep 2 .0 2 01\n";
     assert!(rt; says(&rt, alloc, both, &texts, Status::Done, report)?);
     Ok(())
 }

@@ -147,6 +147,37 @@ fn searches(rt: HostRuntime) -> Result<(), Fail> {
     Ok(())
 }
 
+/// A search among the pairs that keep conditions. Where there is none, it ends with status 1.
+#[test]
+fn keeps_conditions(rt: HostRuntime) -> Result<(), Fail> {
+    let alloc = rt.alloc();
+    let mut files = MemoryFiles::new(alloc, &FILES);
+    let rises = ["tdelay", "worst", "inverter.v", "--keep", "y=01"];
+    let mut out = MemorySink::new(alloc, ROOM, 7)?;
+    let mut err = MemorySink::new(alloc, ROOM, 7)?;
+    let status = run(&rt, alloc, &rises, &mut files, &mut out, &mut err);
+    let wanted = b"unit 1 ns\ndefaulted 0\nexact 2\nfrom 1\nto 0\nnodes 1\n";
+    assert_eq!(rt; status.code(), 0);
+    assert_eq!(rt; out.bytes(), wanted.as_slice());
+    let never = [
+        "tdelay",
+        "worst",
+        "inverter.v",
+        "--keep",
+        "y=01",
+        "--keep",
+        "a==",
+    ];
+    let mut none = MemorySink::new(alloc, ROOM, 7)?;
+    let status = run(&rt, alloc, &never, &mut files, &mut none, &mut err);
+    assert_eq!(rt; status.code(), 1);
+    assert_eq!(rt;
+        none.bytes(),
+        b"unit 1 ns\ndefaulted 0\nnone\nnodes 1\n".as_slice()
+    );
+    Ok(())
+}
+
 /// Help goes to standard output.
 #[test]
 fn shows_help(rt: HostRuntime) -> Result<(), Fail> {

@@ -101,6 +101,7 @@ fn searched(alloc: Global) -> Result<Report, AllocError> {
     let mut report = Report::new(alloc);
     report.add(Line::Exact(5))?;
     report.add(Line::Between { low: 2, high: 5 })?;
+    report.add(Line::AtMost(7))?;
     report.add(Line::NoPair)?;
     report.add(Line::Cause(Cause::Budget))?;
     report.add(Line::From(bits(alloc, &[false, true])?))?;
@@ -116,6 +117,16 @@ fn searched(alloc: Global) -> Result<Report, AllocError> {
         output: label(alloc, "exact")?,
         found: Found::Between { low: 2, high: 5 },
         edges: None,
+    })?;
+    rows.push(Row {
+        output: label(alloc, "z")?,
+        found: Found::AtMost(5),
+        edges: Some(5),
+    })?;
+    rows.push(Row {
+        output: label(alloc, "w")?,
+        found: Found::NoPair,
+        edges: Some(3),
     })?;
     report.add(Line::Each(rows))?;
     let mut words = Vec::new(alloc);
@@ -220,11 +231,13 @@ fn prints_a_search(rt: HostRuntime) -> Result<(), Fail> {
         &rt,
         rt.alloc(),
         &report,
-        "exact 5\nbetween 2 5\nno admitted pair\ncause budget\nfrom 01\nto none\nnodes 9\neach y exact 5 edges 7\n\
-each exact between 2 5 edges none\n--first 0.\n",
-        "{\"proved\":true,\"exact\":5,\"between\":[2,5],\"no\":\"admitted pair\",\"cause\":\"budget\",\"from\":\"01\",\
+        "exact 5\nbetween 2 5\nbetween none 7\nnone\ncause budget\nfrom 01\nto none\nnodes 9\n\
+each y exact 5 edges 7\neach exact between 2 5 edges none\neach z between none 5 edges 5\n\
+each w none edges 3\n--first 0.\n",
+        "{\"proved\":true,\"exact\":5,\"between\":[2,5],\"between\":[null,7],\"none\":true,\"cause\":\"budget\",\"from\":\"01\",\
 \"to\":\"none\",\"nodes\":9,\
-\"each\":[[\"y\",\"exact\",5,\"edges\",7],[\"exact\",\"between\",2,5,\"edges\",null]],\
+\"each\":[[\"y\",\"exact\",5,\"edges\",7],[\"exact\",\"between\",2,5,\"edges\",null],\
+[\"z\",\"between\",null,5,\"edges\",5],[\"w\",\"none\",\"edges\",3]],\
 \"parts\":[[\"--first\",\"0.\"]]}\n",
     )
 }
@@ -252,7 +265,7 @@ fn prints_what_is_told(rt: HostRuntime) -> Result<(), Fail> {
         &report,
         "accepted between 2 5\naccepted none\nunchecked 3\nunchecked none\ndefault 1 3\noutput all\n\
 output 4\nkeep 2 01 5 ==\n",
-        "{\"proved\":true,\"accepted\":null,\"accepted\":null,\"unchecked\":3,\"unchecked\":null,\
+        "{\"proved\":true,\"accepted\":[2,5],\"accepted\":\"none\",\"unchecked\":3,\"unchecked\":\"none\",\
 \"default\":\"1 3\",\"output\":[\"all\"],\
 \"output\":[[4]],\
 \"keep\":\"2 01 5 ==\"}\n",
