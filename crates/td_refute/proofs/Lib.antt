@@ -1,2 +1,3 @@
 mod Worst
 mod PairCubes
+mod Among
