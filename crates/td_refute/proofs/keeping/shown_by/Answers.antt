@@ -1,5 +1,5 @@
 use Rattle.td_circuit.specs.Numbering.{setting}
-use Rattle.td_refute.proofs.Among.{bound_among, none_among}
+use Rattle.td_refute.proofs.Among.{bound_among}
 use Rattle.td_refute.proofs.keeping.shown_by.Goals as goal
 
 pub returns-in-Ok : goal.returns-in-Ok
