@@ -187,20 +187,20 @@ fn outcome_of(
     let _gates = circuit.gates();
     match answer {
         KeptAnswer::Exact { best, tree } => {
-            let outcome = exact(alloc, circuit, admit, told, best, tree, search)?;
-            Ok(outcome)
+            let closed = exact(alloc, circuit, admit, told, best, tree, search)?;
+            Ok(closed)
         }
         KeptAnswer::Between { best, high, cause } => {
-            let outcome = between(alloc, circuit, best, high, cause, search)?;
-            Ok(outcome)
+            let known = between(alloc, circuit, best, high, cause, search)?;
+            Ok(known)
         }
         KeptAnswer::Open { high, cause } => {
-            let outcome = at_most(alloc, &circuit, high, cause)?;
-            Ok(outcome)
+            let bounded = at_most(alloc, &circuit, high, cause)?;
+            Ok(bounded)
         }
         KeptAnswer::NoPair { tree } => {
-            let outcome = none(alloc, &circuit, admit, told, tree)?;
-            Ok(outcome)
+            let empty = none(alloc, &circuit, admit, told, tree)?;
+            Ok(empty)
         }
     }
 }

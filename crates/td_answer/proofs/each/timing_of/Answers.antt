@@ -1,9 +1,15 @@
-use Rattle.std.proofs.Common.{◌∙◌, ◌*◌, ap}
+use Rattle.std.proofs.Common.{◌≡◌, ◌∙◌, ◌*◌, List, [], ap, subst, sym}
+use Rattle.std.proofs.lemmas.Bool.{eqb-true}
 use Rattle.std.proofs.lemmas.Result.{err_from_is_err_and}
+use Rattle.td_circuit.specs.Numbering.{setting}
+use Rattle.td_refutation.specs.declared.conditions.NamedCondition.{NamedCondition}
+use Rattle.td_search.specs.declared.strategy.Strategy.TheVariants.{Lead}
 use Rattle.td_search.specs.Problems.{problem_by}
 use Rattle.td_worst.specs.Methods.{tree_of}
 use Rattle.td_worst.proofs.Outcomes.{outcome_by}
-use Rattle.td_answer.proofs.EachOne.{unanswered, true_found}
+use Rattle.td_answer.specs.Tables.{IsTrueFound}
+use Rattle.td_answer.proofs.EachOne.{unanswered, true_found, true_kept}
+use Rattle.td_answer.proofs.Listing.{no_rows}
 use Rattle.td_answer.proofs.each.timing_of.Goals as goal
 
 pub edges_of-requires : goal.edges_of-requires
@@ -12,15 +18,23 @@ edges_of-requires g c = rw c.pins.ensures.pins (c.pins.ensures.fit ∙ ap (λ n.
 pub worst-requires-clause-held : goal.worst-requires-clause-held
 worst-requires-clause-held g c κs within = c.requires.held
 
+pub worst_kept-requires-clause-held : goal.worst_kept-requires-clause-held
+worst_kept-requires-clause-held g c κs within = c.requires.held
+
+pub worst_kept-requires-clause-fit : goal.worst_kept-requires-clause-fit
+worst_kept-requires-clause-fit g c κs within = c.requires.fit
+
 pub returns-in_err-answer-clause-refusal : goal.returns-in_err-answer-clause-refusal
 returns-in_err-answer-clause-refusal g c =
     let reported = err_from_is_err_and c.from_residual-in_err-answer.result c.from_residual-in_err-answer.ensures.1 in
-    rw (reported.1, reported.2) (unanswered c.args.search.now (problem_by (tree_of c.method_of.result) c.args.circuit.now c.args.admit.now)
+    rw (reported.1, reported.2) (unanswered c.args.search.now (problem_by (tree_of c.method_of.result) c.args.circuit.now c.args.pairs.admit.now)
     _ c.in_err-answer.field-0.0 c.effort_of.ensures.timed c.in_err-answer.ensures.fault)
 
 pub returns-clause-timing : goal.returns-clause-timing
 returns-clause-timing g c = record {
-  figure = rw c.found_of.ensures (true_found (problem_by (tree_of c.method_of.result) c.args.circuit.now c.args.admit.now) c.effort_of.result.effort.budget c.in_ok-answer.answer
-      (outcome_by c.method_of.result _ c.effort_of.result.effort.budget c.in_ok-answer.answer c.in_ok-answer.ensures.answer));
+  figure = rw c.found_of.ensures (subst (λ (keep : List NamedCondition). IsTrueFound (setting c.args.circuit.now) (record { admit = c.args.pairs.admit.now; keep = keep }) _)
+      (sym (no_rows c.args.pairs.keep.now (eqb-true _ _ (sym c.is_empty.ensures ∙ c.if-not-is_empty.false))))
+      (true_found (problem_by (tree_of c.method_of.result) c.args.circuit.now c.args.pairs.admit.now) c.effort_of.result.effort.budget c.in_ok-answer.answer
+      (outcome_by c.method_of.result _ c.effort_of.result.effort.budget c.in_ok-answer.answer c.in_ok-answer.ensures.answer)));
   bound = rw c.pins.ensures.pins at c.in_ok-edges.ensures.sound;
 }

@@ -1,0 +1,32 @@
+use Rattle.std.proofs.Common.{refl}
+use Rattle.std.proofs.lemmas.Result.{err_from_is_err_and}
+use Rattle.td_circuit.specs.Numbering.{setting}
+use Rattle.td_search.specs.declared.strategy.Strategy.TheVariants.{Lead}
+use Rattle.td_question.proofs.Questions.{asked_held, asked_flips}
+use Rattle.td_answer.proofs.Searched.{refused}
+use Rattle.td_answer.proofs.kept.worst_kept.Goals as goal
+
+pub worst_kept-requires-clause-held : goal.worst_kept-requires-clause-held
+worst_kept-requires-clause-held g c κs lives =
+    asked_held c.args.text.now c.args.reading.now c.args.search.now.question (setting c.args.asked.circuit) c.args.asked.admit c.requires.asked
+
+pub worst_kept-requires-clause-fit : goal.worst_kept-requires-clause-fit
+worst_kept-requires-clause-fit g c κs lives = c.requires.keep.rising
+
+pub outcome_of-requires-clause-flips : goal.outcome_of-requires-clause-flips
+outcome_of-requires-clause-flips g c =
+    asked_flips c.args.text.now c.args.reading.now c.args.search.now.question (setting c.args.asked.circuit) c.args.asked.admit c.requires.asked
+
+pub returns-in_err-answer-clause-refusal : goal.returns-in_err-answer-clause-refusal
+returns-in_err-answer-clause-refusal g c =
+    let reported = err_from_is_err_and c.from_residual-in_err-answer.result c.from_residual-in_err-answer.ensures.1 in
+    rw (reported.1, reported.2) (refused c.args.text.now c.args.reading.now c.args.search.now c.args.asked.circuit c.args.asked.admit Lead c.requires.asked
+    _ c.in_err-answer.field-0.0 c.effort_of-effort.ensures.timed c.in_err-answer.ensures.fault)
+
+pub returns-clause-says : goal.returns-clause-says
+returns-clause-says g c =
+    c.in_ok-outcome.ensures.says c.args.text.now c.args.reading.now (record { asked = c.requires.asked; keep = c.requires.keep })
+
+pub returns-clause-certified : goal.returns-clause-certified
+returns-clause-certified g c =
+    c.in_ok-outcome.ensures.certified c.args.text.now c.args.reading.now (record { asked = c.requires.asked; keep = c.requires.keep }) c.requires.outputs refl
