@@ -18,7 +18,7 @@ stays_within asked (answer.Between low high pair nodes cause.Budget) (answer.Exa
 stays_within asked (answer.Between low high pair nodes cause.Budget) (answer.Between low' high' other nodes' why) is still le =
     λ bound has other_cause. omega (arith, is bound has (λ h. cc), le)
 
-abbrev or_zero : Option ℕ → ℕ
+abbrev pub or_zero : Option ℕ → ℕ
 or_zero None = 0
 or_zero (Some n) = n
 

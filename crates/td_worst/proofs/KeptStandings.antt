@@ -1,5 +1,6 @@
 -- What is known of the pairs that keep conditions.
 use Rattle.std.proofs.Common.{ℕ, ◌<◌, ◌≤◌, ◌^◌, min, arith}
+use Rattle.std.specs.Prelude.{Option, Some, None, IfSome}
 use Rattle.td_circuit.specs.Settings.{Setting}
 use Rattle.td_lead.specs.declared.timed.Timed.{Timed}
 use Rattle.td_refutation.specs.Asking.{Asking}
@@ -23,3 +24,9 @@ module _ (given : Setting) (asking : Asking) where
   -- its time is small
   pub small : (best : Timed) (high : ℕ) → IsTimedAmong given asking best → IsBoundAmong given asking high → high < 10 ^ 15 → best.time < 10 ^ 15
   small best high timed is few = let low = is best.pair best.time timed.asked timed.delay in omega (arith, few)
+
+  -- as small is the best pair's, if there is one
+  pub small_best : (best : Option Timed) (high : ℕ) → IfSome best (IsTimedAmong given asking) → IsBoundAmong given asking high → high < 10 ^ 15
+      → IfSome best (λ (one : Timed). one.time < 10 ^ 15)
+  small_best None high timed is few = tt
+  small_best (Some best) high timed is few = small best high timed is few

@@ -20,6 +20,10 @@ use Rattle.td_search.specs.Written.{HasText}
 use Rattle.td_worst.specs.declared.kept_answer.KeptAnswer.{KeptAnswer}
 use Rattle.td_worst.specs.declared.kept_answer.KeptAnswer.TheVariants as kept
 
+-- the admitted pairs that keep conditions
+abbrev pub asking_by : Admitted → List NamedCondition → Asking
+asking_by admit keep = record { admit = admit; keep = keep }
+
 -- what a certificate is about that tells these terms: it counts no more flips than there are inputs
 abbrev pub question_with : Setting → Admitted → Terms → Question
 question_with given admit terms = record {

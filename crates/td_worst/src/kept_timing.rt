@@ -6,7 +6,7 @@ ghost use Rattle.td_certificate.specs.Accepts.{are_fit};
 ghost use Rattle.td_search.specs.declared.strategy.Strategy.TheVariants as strategy;
 ghost use Rattle.td_search.specs.Problems.{problem_by};
 ghost use Rattle.td_worst.specs.Faults.{IsWorstFault};
-ghost use Rattle.td_worst.specs.Kept.{IsKeptAnswer, IsKeptWithinEdges, KeptTimeNeedsStop};
+ghost use Rattle.td_worst.specs.Kept.{IsKeptAnswer, IsKeptWithinEdges, KeptTimeNeedsStop, asking_by};
 
 use crate::fault::WorstFault;
 use crate::kept_answer::KeptAnswer;
@@ -19,7 +19,7 @@ use std::thread::Threads;
 use std::time::Clock;
 use td_circuit::Circuit;
 use td_domain::Admit;
-use td_pool::Limits;
+use td_pool::{Limits, Unwatched, Watch};
 use td_refutation::NamedCondition;
 use td_stop::{Stop, Timer};
 
@@ -69,23 +69,25 @@ pub fn worst_kept<R: Threads + Wait + Clock + Sync>(
         timer: &timer,
         seconds,
     };
-    kept_within(rt, alloc, circuit, admit, keep, timed)
+    let (found, _watch) = kept_within(rt, alloc, circuit, admit, keep, timed, Unwatched);
+    found
 }
 
-// As `worst_kept`, beside a thread that runs the timer.
-fn kept_within<R: Threads + Wait + Clock + Sync>(
+// As `worst_kept`, beside a thread that runs the timer. The watch comes back.
+fn kept_within<W: Watch, R: Threads + Wait + Clock + Sync>(
     rt: &R,
     alloc: Global,
     circuit: &Circuit,
     admit: &Admit,
     keep: &[NamedCondition],
     timed: Timed<'_>,
-) -> Result<KeptAnswer, WorstFault>
+    watch: W,
+) -> (Result<KeptAnswer, WorstFault>, W)
     requires held { length admit.now.held ≡ length circuit.now.netlist.inputs }
     requires fit { are_fit (2 + length circuit.now.netlist.inputs + length circuit.now.netlist.gates) keep.now ≡ true }
-    ensures answer { IfOk result (IsKeptAnswer (setting circuit.now) (record { admit = admit.now; keep = keep.now })) }
-    ensures edges { IfOk result (IsKeptWithinEdges (setting circuit.now) admit.now) }
-    ensures fault { IfErr result (IsWorstFault true (problem_by strategy.Lead circuit.now admit.now)) }
+    ensures answer { IfOk result.0 (IsKeptAnswer (setting circuit.now) (asking_by admit.now keep.now)) }
+    ensures edges { IfOk result.0 (IsKeptWithinEdges (setting circuit.now) admit.now) }
+    ensures fault { IfErr result.0 (IsWorstFault true (problem_by strategy.Lead circuit.now admit.now)) }
 {
     let Timed {
         limits,
@@ -96,22 +98,23 @@ fn kept_within<R: Threads + Wait + Clock + Sync>(
     thread::scope(
         thread::scope_env(),
         rt,
-        |scope| -> Result<KeptAnswer, WorstFault>
+        |scope| -> (Result<KeptAnswer, WorstFault>, W)
             requires held { length admit.now.held ≡ length circuit.now.netlist.inputs }
             requires fit { are_fit (2 + length circuit.now.netlist.inputs + length circuit.now.netlist.gates) keep.now ≡ true }
-            ensures answer { IfOk result (IsKeptAnswer (setting circuit.entry.now) (record { admit = admit.entry.now; keep = keep.entry.now })) }
-            ensures edges { IfOk result (IsKeptWithinEdges (setting circuit.entry.now) admit.entry.now) }
-            ensures fault { IfErr result (IsWorstFault true (problem_by strategy.Lead circuit.entry.now admit.entry.now)) }
+            ensures answer { IfOk result.0 (IsKeptAnswer (setting circuit.entry.now) (asking_by admit.entry.now keep.entry.now)) }
+            ensures edges { IfOk result.0 (IsKeptWithinEdges (setting circuit.entry.now) admit.entry.now) }
+            ensures fault { IfErr result.0 (IsWorstFault true (problem_by strategy.Lead circuit.entry.now admit.entry.now)) }
         {
+            let watch = watch;
             let Ok(running) = scope.spawn(move || timer.run(rt, seconds, stop)) else {
-                return Err(WorstFault::NoTimer);
+                return (Err(WorstFault::NoTimer), watch);
             };
             let found = worst_kept_until(rt, alloc, circuit, admit, keep, limits);
             timer.end(rt);
             running.join(rt);
             match found {
-                Ok(answer) => Ok(answer),
-                Err(reason) => Err(WorstFault::Search(reason)),
+                Ok(answer) => (Ok(answer), watch),
+                Err(reason) => (Err(WorstFault::Search(reason)), watch),
             }
         },
     )
