@@ -1,5 +1,5 @@
 -- What is true of the outcome of a search for each output.
-use Rattle.std.specs.Prelude.{◌≡◌, ℕ, Bool, true, false, cond, is_some, List, [], ◌∷◌, ◌++◌, Option, Some}
+use Rattle.std.specs.Prelude.{◌≡◌, ◌≤◌, ℕ, Bool, true, false, cond, is_some, List, [], ◌∷◌, ◌++◌, Option, Some}
 use Rattle.std.specs.List.{AllZip}
 use Rattle.td_nets.specs.Netlist.{Name}
 use Rattle.td_reading.specs.declared.reading.Reading.{Reading}

@@ -1,0 +1,9 @@
+use Rattle.std.proofs.lemmas.Result.{on_ok_weaker}
+use Rattle.td_answer.specs.Refusals.{bad_keep_text}
+use Rattle.td_answer.proofs.Adding.{two_appended}
+use Rattle.td_answer.proofs.words.bad_keep.Goals as goal
+
+pub returns : goal.returns
+unfolding bad_keep_text
+returns c =
+    on_ok_weaker c.push-2.result (two_appended c.args.out.now _ _ _ c.args.word.now c.in_ok-push.ensures.appended) c.push-2.ensures.appended

@@ -1,0 +1,9 @@
+use Rattle.std.proofs.lemmas.Result.{on_ok_weaker}
+use Rattle.td_answer.specs.Refusals.{no_net_text}
+use Rattle.td_answer.proofs.Adding.{two_appended}
+use Rattle.td_answer.proofs.words.no_net.Goals as goal
+
+pub returns : goal.returns
+unfolding no_net_text
+returns c =
+    on_ok_weaker c.push-2.result (two_appended c.args.out.now _ _ _ c.args.name.now c.in_ok-push.ensures.appended) c.push-2.ensures.appended
