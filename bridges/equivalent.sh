@@ -48,8 +48,8 @@ need yosys yosys
 log=$out.equiv.log
 fresh "$log $out.rtl.log $out.gold.blif $out.gate.blif $out.gates.v $out.cells.v $out.boxes.v" \
     $design $liberty "$out.v"
-# What was left out of the gates: cuts, and latches that are open. Nets that stay in them are compared
-# as outputs are.
+# What was left out of the gates: cuts, and latches that are open. Nets that stay in them are
+# compared as outputs are.
 nets=$(sed -n 's|^// Kept: ||p' "$out.v")
 stay=$(python3 "$here/options.py" steps "$top" $nets)
 seen=$(echo "$stay" | sed 's/^setattr -set keep 1/expose/')

@@ -18,7 +18,8 @@ import tempfile
 from typing import Dict, List, Optional
 
 from header import Header, slices, width
-from options import kept_nets, lines_of, own, text_of as options_text, words_of
+from options import kept_nets, lines_of, own, words_of
+from options import text_of as options_text
 from refusal import Refusal, refuse_same
 from route import Cells, path_lines
 

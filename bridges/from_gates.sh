@@ -6,8 +6,8 @@
 #
 # DESIGN is RTL, which yosys and ABC synthesise onto gates of one and two inputs, or a netlist of
 # BLIF (a name that ends in .blif), which is mapped in the same way; with --keep each `.names`
-# of it stays a gate as it is, and has to be a primitive. A net NET of TOP stays, though nothing reads
-# it, as those do that `--keep` names in OUT.options.
+# of it stays a gate as it is, and has to be a primitive. A net NET of TOP stays, though nothing
+# reads it, as those do that `--keep` names in OUT.options.
 # shellcheck disable=SC2086 # words that are several files
 set -eu
 script=from_gates.sh
