@@ -21,7 +21,8 @@ here=$(dirname "$0")
 usage 4 "$@"
 mapped=$1 top=$2 liberty=$3 out=$4
 shift 4
-clock="" slew=0.1 load=0.05 sdc="" sdf="" cuts="" nets="" step=1ps shell="--shell $out.shell.v" rest=$#
+clock="" slew=0.1 load=0.05 sdc="" sdf="" cuts="" nets="" step=1ps
+shell="--shell $out.shell.v" rest=$#
 while [ "$rest" -gt 0 ]; do
     word=$1
     shift

@@ -32,7 +32,7 @@ from bridging.made import paths, tree, web
 from bridging.tools import LIBRARY, read, script, write, yosys
 from lib import check, places
 
-CASES = 234
+CASES = 276
 # Random netlists that come before all else: whether they have registers.
 FIRST = (False, True)
 PAIRS = 40

@@ -45,5 +45,6 @@ strategy=refute
 worst carry_skip carry_skip
 gates arbiter
 worst arbiter arbiter
+# shellcheck disable=SC2046 # options are words
 worst arbiter arbiter_code $(sed 's/#.*//' "$out/arbiter.options")
 worst arbiter any_stays --keep ok=11 --keep any=11 --output any
