@@ -305,7 +305,8 @@ class Figure:
                 said = found[key]
                 lines.append(f"{key} {' '.join(said) if isinstance(said, list) else said}")
             if key == "bound" and "between" in found:
-                lines.append("between {} {}".format(*found["between"]))
+                ends = ("none" if end is None else str(end) for end in found["between"])
+                lines.append(f"between {' '.join(ends)}")
         lines += found.get("equal", [])
         for each in found.get("each", []):
             lines.append("each " + " ".join(map(str, each)))
