@@ -20,12 +20,14 @@ CONNECT = "connect it; `setundef -zero` of yosys makes undriven nets 0"
 
 class Asked(NamedTuple):
     """How cells are read: each pin with its own delays, latches (open, cut, or `auto`: open where
-    their enable is an input), and the kinds of cells whose state the library has in a table.
+    their enable is an input), the kinds of cells whose state the library has in a table, and the
+    nets that stay by their names.
     """
 
     each_pin: bool = True
     latch: str = "auto"
     states: Dict[str, str] = {}
+    kept: List[str] = []
 
 
 def loop_of(reads: Dict[Bit, Set[Bit]], looped: Set[Bit]) -> List[Bit]:
@@ -55,6 +57,7 @@ class Conversion:
                 "name one of the design, as its source has it",
             )
         self.module, self.delays, self.latch = design[top], delays, reading.latch
+        self.wanted = reading.kept
         self.library = Library(design, reading.latch != "cut", reading.states)
         cells = sorted(self.module.cells, key=lambda cell: cell.name)
         for cell in cells:
@@ -62,9 +65,11 @@ class Conversion:
         self.combinational = [cell for cell in cells if not self.library.stores(cell.kind)]
         self.storing = [cell for cell in cells if self.library.stores(cell.kind)]
         self.constants = Constants(self.library, self.combinational)
-        self.names = Names(
-            self.module, {terminal for terminal in self.port_bits() if self.wire_to(terminal)}
-        )
+        ports = {port.name for port in self.module.inputs + self.module.outputs}
+        kept = set(reading.kept) - ports
+        self.kept = [net for net in self.module.nets if net.name in kept]
+        apart = {terminal for terminal in self.port_bits() if self.wire_to(terminal)}
+        self.names = Names(self.module, apart, kept)
         self.writer = GateWriter(self.names, delays, reading.each_pin)
         self.netlist = Netlist(top)
         self.port_names = {port.name for port in self.module.inputs + self.module.outputs}
@@ -88,6 +93,7 @@ class Conversion:
         for cell, name in sorted(cuts, key=lambda cut: in_words(cut[1])):
             self.register(cell, name)
         self.ports()
+        self.refuse_lost()
         self.netlist.gates = self.writer.gates
         self.notes += self.kinds_of_registers()
         self.notes += self.delays.notes({cell.name: cell.kind for cell in self.module.cells})
@@ -187,6 +193,19 @@ class Conversion:
                 f"the nets {', '.join(names[:8])} form a loop",
                 f"--cut-net {given} makes an input {given}.q and an output {given}.d of it",
             )
+
+    def refuse_lost(self):
+        """Nets that should stay, and aren't there."""
+        known = self.port_names | {net.name for net in self.kept}
+        known |= {port.name for port in self.netlist.inputs + self.netlist.outputs}
+        known |= {bare_terminal(gate.output) for gate in self.writer.gates}
+        for name in self.wanted:
+            if name not in known:
+                raise Refusal(
+                    "NoNet",
+                    f"no net is called {name}",
+                    "name one of the netlist, as its source has it",
+                )
 
     def kinds_of_registers(self) -> Iterator[str]:
         """One note for each kind of register, with its edge and its clocks."""
@@ -316,7 +335,7 @@ class Conversion:
             for pin, bit in register.cell.inputs.items()
             if pin in register.takes
         }
-        read |= {bit for port in self.module.outputs for bit in port.bits}
+        read |= {bit for net in self.module.outputs + self.kept for bit in net.bits}
         inputs = []
         for port in self.module.inputs:
             terminals_of = {self.terminal(bit) for bit in port.bits if bit in self.input_bits}
@@ -330,6 +349,8 @@ class Conversion:
         outputs = [Port(port.name, port.bounds) for port in self.module.outputs]
         for port in self.module.outputs:
             self.output_bits(port)
+        for net in self.kept:
+            self.output_bits(net, "net")
         self.netlist.inputs = inputs + self.netlist.inputs
         self.netlist.outputs = outputs + self.netlist.outputs
         known = {port.name for port in self.netlist.inputs + self.netlist.outputs}
@@ -337,9 +358,9 @@ class Conversion:
             Port(name, bounds) for name, bounds in self.names.vectors.items() if name not in known
         ]
 
-    def output_bits(self, vector: Vector):
-        """A gate for each bit of an output that is an input, a constant, another output's net, or
-        the end of a wire with a delay.
+    def output_bits(self, vector: Vector, what: str = "output"):
+        """A gate for each bit of an output, or of a net that stays, that is an input, a constant,
+        the net of another one, or the end of a wire with a delay.
         """
         port = Port(vector.name, vector.bounds)
         for place, bit in enumerate(vector.bits):
@@ -348,7 +369,7 @@ class Conversion:
             if wire:
                 self.writer.copy(target, source, wire)
             elif source != target:
-                names = f"the output {bare_terminal(target)} is {bare_terminal(source)}"
+                names = f"the {what} {bare_terminal(target)} is {bare_terminal(source)}"
                 self.notes.append(f"{names}: it comes by a buf, one step later")
                 self.writer.copy(target, source)
 

@@ -48,7 +48,11 @@ need yosys yosys
 log=$out.equiv.log
 fresh "$log $out.rtl.log $out.gold.blif $out.gate.blif $out.gates.v $out.cells.v $out.boxes.v" \
     $design $liberty "$out.v"
-# What was left out of the gates: cuts, and latches that are open.
+# What was left out of the gates: cuts, and latches that are open. Nets that stay in them are
+# compared as outputs are.
+nets=$(sed -n 's|^// Kept: ||p' "$out.v")
+stay=$(python3 "$here/options.py" steps "$top" $nets)
+seen=$(echo "$stay" | sed 's/^setattr -set keep 1/expose/')
 cuts=$(sed -n 's|^// Cut: ||p' "$out.v")
 opened=""
 ! grep -q '^// Open: ' "$out.v" ||
@@ -70,18 +74,26 @@ if [ -n "$cuts" ]; then
 fi
 # As synth.sh makes of nets without a driver.
 case $allow in *NoDriver*) gold="$gold; setundef -zero -undriven" ;; esac
+! grep -q '^// Flip-flops and latches are cut out' "$out.v" || way=--sat
+case $way in --sat) gold="$gold
+    $stay" ;;
+*) gold="$gold
+    $seen" ;;
+esac
 # Sums and products are joined as `synth` does, or the proof of a multiplier takes minutes.
-gold="$gold; opt_expr; opt_clean; wreduce; peepopt; opt_clean; alumacc; opt; memory; opt -full
+gold="$gold
+    opt_expr; opt_clean; wreduce; peepopt; opt_clean; alumacc; opt; memory; opt -full
     techmap; opt; $opened"
 python3 "$here/declared.py" "$out.v" > "$out.gates.v" || exit 1
 small="async2sync; dffunmap; opt; setundef -zero; aigmap; opt_clean"
-! grep -q '^// Flip-flops and latches are cut out' "$out.v" || way=--sat
 if [ "$way" = --cec ]; then
     need berkeley-abc berkeley-abc
     logged "$log" "take --sat: the design has registers" yosys -p "
         $gold; $small; select -assert-none t:\$_*FF* t:\$_*LATCH*
         write_blif $out.gold.blif; design -reset
-        read_verilog $out.gates.v; hierarchy -top $top; proc; $small; write_blif $out.gate.blif"
+        read_verilog $out.gates.v; hierarchy -top $top; proc
+        $seen
+        $small; write_blif $out.gate.blif"
     berkeley-abc -q "cec -T 600 -C 1000000 $out.gold.blif $out.gate.blif" > "$log" 2>&1 || true
     rm -f "$out.gold.blif" "$out.gate.blif"
     if grep -q "Networks are equivalent" "$log"; then
@@ -100,10 +112,15 @@ else
         $gold; $states; rename $top gold; design -stash gold
         $(cells $liberty)
         read_verilog -icells $out.gates.v $out.shell.v; hierarchy -top ${top}_shell
-        setattr -mod -unset keep_hierarchy *; flatten; $states
-        rename ${top}_shell gate; design -stash gate
+        setattr -mod -unset keep_hierarchy *; flatten; cd ${top}_shell
+        $(for net in $nets; do echo "rename gates.$net $net"; done)
+        cd
+        $(python3 "$here/options.py" steps "${top}_shell" $nets)
+        $states; rename ${top}_shell gate; design -stash gate
         design -copy-from gold -as gold gold; design -copy-from gate -as gate gate
-        equiv_make gold gate equiv; hierarchy -top equiv; opt -full
+        equiv_make gold gate equiv; hierarchy -top equiv
+        $(python3 "$here/options.py" steps equiv $nets)
+        opt -full
         equiv_simple -undef; equiv_induct -undef; equiv_status -assert" > "$log" 2>&1 ||
         refuse NotEquivalent "$(grep -v '^Warning' "$log" | tail -n 3)" \
             "look at $log; compare the mapped netlist, where names of registers differ"

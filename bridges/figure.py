@@ -18,6 +18,8 @@ import tempfile
 from typing import Dict, List, Optional
 
 from header import Header, slices, width
+from options import kept_nets, lines_of, own, words_of
+from options import text_of as options_text
 from refusal import Refusal, refuse_same
 from route import Cells, path_lines
 
@@ -27,9 +29,15 @@ OF_LIBERTY = ("clock", "slew", "load", "sdc", "sdf", "corner", "pins", "step", "
               "latch", "outputs")  # fmt: skip
 # What bounds may be asked about too.
 OF_BOUND = ("--first", "--second", "--pin", "--at", "--output", "--default-rise", "--default-fall")
+OPTIONS = """More of them may stand in
+OUT.options: whole options on each line, comments after #. A net that `--keep`
+names stays in the netlist by its name, though nothing reads it.
+
+"""
 STATUSES = """exit status:
   0  the figure is exact, both readers say equal, the certificate is accepted
-  1  a refusal, by its name     2  bad words, before any tool runs
+  1  a refusal, by its name, or `none`: no pair keeps the conditions
+  2  bad words, before any tool runs
   3  between two figures        4  the certificate is refused
   5  a device or memory failed  6  the gates do other than the design"""
 
@@ -94,22 +102,45 @@ def words_of_the_line():
         words.add_argument(f"--{name}", metavar="WORD", help="as of from_liberty.sh")
     for name in ("--cut", "--cut-net"):
         words.add_argument(name, action="append", default=[], metavar="NAME", help="likewise")
-    words.epilog = "All other options are those of `tdelay worst`.\n\n" + STATUSES
+    words.epilog = "All other options are those of `tdelay worst`. " + OPTIONS + STATUSES
     return words.parse_known_args()
 
 
-def refuse_words(tdelay: str, rest: List[str]):
+def refuse_words(tdelay: str, rest: List[str], where: str = ""):
     """Options that `tdelay worst` doesn't know, and those that are given here."""
+    begin = f"figure.sh: BadWord: {where}"
     for word in rest:
         if word.split("=")[0] in ("--cert", "-o", "--vcd", "--path", "-q", "--quiet"):
-            raise Failed(2, f"figure.sh: BadWord: {word} is given here: see OUT.cert, OUT.vcd\n")
+            raise Failed(2, f"{begin}{word} is given here: see OUT.cert, OUT.vcd\n")
         if not word.startswith("-") and word.endswith(".v"):
-            raise Failed(2, f"figure.sh: BadWord: {word} isn't an option\n")
-    with tempfile.NamedTemporaryFile(suffix=".v") as empty:
-        words = [tdelay, "worst", empty.name, *rest]
+            raise Failed(2, f"{begin}{word} isn't an option\n")
+    with tempfile.NamedTemporaryFile("w", suffix=".v") as small:
+        small.write("module t (a, y); input a; output y; buf (y, a); endmodule\n")
+        small.flush()
+        words = [tdelay, "worst", small.name, *rest]
         done = subprocess.run(words, capture_output=True, text=True)
-    if done.returncode == 2:
-        raise Failed(2, done.stderr.replace("Usage: tdelay worst", "Usage: figure.sh .."))
+    # This netlist has other nets and inputs than the design.
+    if done.returncode == 2 and not re.match(r"tdelay: (no|bad (?!keep)\w+) ", done.stderr):
+        said = done.stderr.replace("Usage: tdelay worst", "Usage: figure.sh ..")
+        raise Failed(2, (begin if where else "") + said)
+
+
+def refuse_lines(tdelay: str, out: str) -> List[str]:
+    """Bad words in OUT.options, by their line. Answers the words."""
+    lines = lines_of(own(options_text(out)), out)
+    for number, words in lines.items():
+        refuse_words(tdelay, words, f"line {number} of {out}.options: ")
+    return [word for words in lines.values() for word in words]
+
+
+def place_in(out: str, said: str) -> str:
+    """The line of OUT.options with a name of which a tool says that it isn't there."""
+    lacking = re.search(r"(?:no net is called|tdelay: no (?:net|input)) (\S+)$", said, re.M)
+    for number, words in lines_of(options_text(out), out).items():
+        named = {re.split(r"[=\[]", word)[0].lstrip("\\") for word in words}
+        if lacking and re.split(r"[=\[]", lacking[1])[0] in named:
+            return f"  where: line {number} of {out}.options\n"
+    return ""
 
 
 # What a run writes, after OUT.
@@ -133,10 +164,14 @@ class Figure:
         read = f"{asked.design} {asked.liberty} {asked.models}".split()
         made = (asked.out + end for end in MADE if self.rtl or end != ".mapped.v")
         refuse_same(made, [*read, asked.sdf, asked.sdc])
-        self.gates()
-        self.equal()
-        options = shlex.split(text_of(f"{self.asked.out}.options"))
-        status = self.worst(options)
+        try:
+            self.gates()
+            self.equal()
+            options = words_of(asked.out)
+            status = self.worst(options)
+        except Failed as failed:
+            failed.said += place_in(asked.out, failed.said)
+            raise
         if self.asked.models and "first" in self.found:
             self.cells(options)
         return status
@@ -145,10 +180,12 @@ class Figure:
         """From the design to gates with delays."""
         asked = self.asked
         kinds = [name for name in asked.allow if name != "UnknownLevel"]
+        nets = [word for net in kept_nets(self.rest) for word in ("--keep-net", net)]
         if self.rtl:
             allow = [word for name in kinds for word in ("--allow", name)]
-            run([script("synth.sh"), asked.design, asked.top, asked.liberty, asked.out, *allow])
-        words = [script("from_liberty.sh"), self.mapped, asked.top, asked.liberty, asked.out]
+            words = [asked.design, asked.top, asked.liberty, asked.out]
+            run([script("synth.sh"), *words, *allow, *nets])
+        words = [script("from_liberty.sh"), self.mapped, asked.top, asked.liberty, asked.out, *nets]
         for name in OF_LIBERTY:
             given = getattr(asked, name)
             words += [f"--{name}", given] if given is not None else []
@@ -187,7 +224,9 @@ class Figure:
     def worst(self, options: List[str]) -> int:
         """The search, its certificate, and its bound."""
         out, gates = self.asked.out, f"{self.asked.out}.v"
-        words = [*options, *for_bound(self.rest)]
+        if options:
+            self.found["options"] = " ".join(map(shlex.quote, options))
+        words = for_bound([*options, *self.rest])
         bound = run([self.tdelay, "bound", gates, "--edges", "--json", *words])
         said = json.loads(bound.stdout)
         self.found["bound"] = min(
@@ -201,11 +240,13 @@ class Figure:
         for stale in (f"{out}.cert", f"{out}.vcd"):
             if os.path.exists(stale):
                 os.remove(stale)
-        done = run([self.tdelay, "worst", gates, "--json", *more, *options, *self.rest], (0, 3))
+        done = run([self.tdelay, "worst", gates, "--json", *more, *options, *self.rest], (0, 1, 3))
+        if done.returncode == 1 and not done.stdout:
+            raise Failed(1, done.stderr)
         report = json.loads(done.stdout)
         with open(f"{out}.json", "w", encoding="utf-8") as file:
             file.write(done.stdout)
-        for key in ("exact", "between", "cause", "each", "output"):
+        for key in ("exact", "between", "none", "cause", "each", "output"):
             if key in report:
                 self.found[key] = report[key]
         if "from" in report:
@@ -213,13 +254,14 @@ class Figure:
             self.found["second"] = by_ports(self.head, report["to"])
             cells = Cells(json.loads(text_of(f"{out}.map.json")))
             self.found["path"] = path_lines(cells, report.get("change", []))
-        if done.returncode == 0 and not each:
+        if done.returncode != 3 and not each:
             checked = subprocess.run(
                 [self.tdelay, "check", gates, f"{out}.cert"], capture_output=True, text=True
             )
             if checked.returncode:
                 raise Failed(checked.returncode, checked.stderr or checked.stdout)
-            self.found["accepted"] = int(re.search(r"^accepted (\d+)", checked.stdout, re.M)[1])
+            accepted = re.search(r"^accepted (\d+|none)", checked.stdout, re.M)[1]
+            self.found["accepted"] = int(accepted) if accepted != "none" else accepted
         return done.returncode
 
     def cells(self, options: List[str]):
@@ -256,12 +298,15 @@ class Figure:
         lines += [f"unit {unit}", f"gates {found.get('gates')}"]
         if "opensta_ps" in found:
             lines.append(f"opensta {found['opensta_ps']:g} ps")
-        for key in ("bound", "exact", "cause", "accepted", "cells", "output"):
-            if key in found:
+        for key in ("options", "bound", "exact", "none", "cause", "accepted", "cells", "output"):
+            if key == "none" and key in found:
+                lines.append("none: no pair keeps the conditions")
+            elif key in found:
                 said = found[key]
                 lines.append(f"{key} {' '.join(said) if isinstance(said, list) else said}")
             if key == "bound" and "between" in found:
-                lines.append("between {} {}".format(*found["between"]))
+                ends = ("none" if end is None else str(end) for end in found["between"])
+                lines.append(f"between {' '.join(ends)}")
         lines += found.get("equal", [])
         for each in found.get("each", []):
             lines.append("each " + " ".join(map(str, each)))
@@ -324,7 +369,7 @@ def main() -> int:
     asked, rest = words_of_the_line()
     try:
         tdelay = program()
-        refuse_words(tdelay, rest)
+        refuse_words(tdelay, [*refuse_lines(tdelay, asked.out), *rest])
         figure = Figure(asked, rest, tdelay)
         status = figure.run()
     except Failed as failed:

@@ -1,15 +1,17 @@
 #!/bin/sh
 # from_liberty.sh MAPPED.v TOP LIBERTY OUT [--clock PORT] [--slew T] [--load C] [--sdc FILE]
-#     [--sdf FILE] [--cut INSTANCE].. [--cut-net NET].. [options of primitives.py]
+#     [--sdf FILE] [--cut INSTANCE].. [--cut-net NET].. [--keep-net NET]..
+#     [options of primitives.py]
 # Writes a netlist of library cells as gate primitives: OUT.v, and OUT.shell.v, which has the
-# flip-flops around them; OUT.options has the options of tdelay that an SDC file asks for, and
-# OUT.map.json which cell and pin each net is.
+# flip-flops around them; OUT.options gets the options of tdelay that an SDC file asks for, after
+# what stands there of your own, and OUT.map.json has which cell and pin each net is.
 #
 # Delays are those of OpenSTA (OUT.sdf, OUT.sta.log) for inputs that change at moment 0 in T and
 # outputs with a load of C, in units of the library, or for the constraints of an SDC file; or those
 # of an SDF file that another timing tool wrote. PORT is the clock of a sequential design. MAPPED.v
 # and LIBERTY may be several files, as one word with spaces. --cut makes ports INSTANCE.PIN of the
 # pins of a black box or a cell with state, --cut-net an input NET.q and an output NET.d of a net.
+# A net NET stays, though nothing reads it, as those do that `--keep` names in OUT.options.
 # shellcheck disable=SC2086 # words that are several files
 set -eu
 script=from_liberty.sh
@@ -19,16 +21,18 @@ here=$(dirname "$0")
 usage 4 "$@"
 mapped=$1 top=$2 liberty=$3 out=$4
 shift 4
-clock="" slew=0.1 load=0.05 sdc="" sdf="" cuts="" step=1ps shell="--shell $out.shell.v" rest=$#
+clock="" slew=0.1 load=0.05 sdc="" sdf="" cuts="" nets="" step=1ps
+shell="--shell $out.shell.v" rest=$#
 while [ "$rest" -gt 0 ]; do
     word=$1
     shift
     rest=$((rest - 1))
     case $word in
-    --clock | --slew | --load | --sdc | --sdf | --cut | --cut-net)
+    --clock | --slew | --load | --sdc | --sdf | --cut | --cut-net | --keep-net)
         value "$word" $((rest + 1))
         case $word in
         --cut*) cuts="$cuts $word $1" ;;
+        --keep-net) nets="$nets $1" ;;
         *) eval "${word#--}=\$1" ;;
         esac
         shift
@@ -43,17 +47,21 @@ while [ "$rest" -gt 0 ]; do
 done
 python3 "$here/primitives.py" - "$top" --words-only "$@" || exit 2
 given $mapped $liberty $sdc $sdf
-made=".v .shell.v .json .map.json .options .cut.v .tcl .sdc .sta.log .yosys.log"
+made=".v .shell.v .json .map.json .cut.v .tcl .sdc .sta.log .yosys.log"
 [ -n "$sdf" ] || made="$made .sdf"
 fresh "$(for end in $made; do printf '%s ' "$out$end"; done)" $mapped $liberty $sdc $sdf
+apart "$out.options" $mapped $liberty $sdc $sdf
 need yosys yosys
+nets=$(python3 "$here/options.py" nets "$out" $nets) || exit 1
 kept=$(echo "$cuts " | grep -o -e '--cut [^ ]*' | sed 's|.* \(.*[./]\)\{0,1\}\([^./]*\)$|\2|' |
     sed 's|.*|setattr -set keep 1 -set keep_hierarchy 1 */&|')
 logged "$out.yosys.log" "give the library that has all cells of the netlist" yosys -p "
     $(cells $liberty)
     read_verilog $mapped; hierarchy -check -top $top
     $kept
-    flatten; opt_clean; write_json $out.all.json"
+    flatten
+    $(python3 "$here/options.py" steps "$top" $nets)
+    opt_clean; write_json $out.all.json"
 # Power pins, and what is cut, aren't part of the gates.
 python3 "$here/cuts.py" "$out.all.json" "$top" --power "$liberty" $cuts > "$out.json" || {
     rm -f "$out.all.json" "$out.json"
@@ -96,7 +104,7 @@ if [ -z "$sdf" ]; then
     rm -f "$out.error"
 fi
 python3 "$here/primitives.py" "$out.json" "$top" --sdf "$sdf" --map "$out.map.json" \
-    --library "$liberty" --cuts "$cuts" $shell "$@" > "$out.part" || {
+    --library "$liberty" --cuts "$cuts" --kept "$nets" $shell "$@" > "$out.part" || {
     rm -f "$out.part"
     exit 1
 }
@@ -104,12 +112,14 @@ if [ -n "$sdc" ]; then
     unit=$(sed -n 's/.*time_unit *: *"\([0-9]*[munpf]*s\)".*/\1/p' ${liberty%% *} | head -n 1)
     touch "$out.sdc"
     python3 "$here/sdc.py" "$out.sdc" "$out.part" --step "$step" --unit "${unit:-1ns}" \
-        > "$out.options" || {
-        rm -f "$out.part" "$out.options"
+        > "$out.asked" || {
+        rm -f "$out.part" "$out.asked"
         exit 1
     }
-    echo "$script: options of tdelay: $(cat "$out.options")" >&2
+    echo "$script: options of tdelay: $(cat "$out.asked")" >&2
 else
-    : > "$out.options"
+    : > "$out.asked"
 fi
+python3 "$here/options.py" constraints "$out" < "$out.asked"
+rm -f "$out.asked"
 mv "$out.part" "$out.v"

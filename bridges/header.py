@@ -15,7 +15,7 @@ PORT = re.compile(r"^(input|output) (?:\[(\d+):(\d+)\] )?(\\\S+ |\w[\w$]*);$", r
 @dataclass
 class Header:
     """A module's name, its step, its ports in their order, the clocks that no gate reads, the
-    levels that hold latches open, and the cuts, as words of the command line.
+    levels that hold latches open, the cuts, as words of the command line, and the nets that stay.
     """
 
     name: str
@@ -26,6 +26,7 @@ class Header:
     held: Dict[str, int] = field(default_factory=dict)
     open_inside: bool = False
     cuts: List[str] = field(default_factory=list)
+    kept: List[str] = field(default_factory=list)
 
     @staticmethod
     def of(text: str) -> "Header":
@@ -38,11 +39,13 @@ class Header:
         for way, left, right, name in PORT.findall(text):
             bounds = (int(left), int(right)) if left else None
             (found.inputs if way == "input" else found.outputs).append(Port(bare(name), bounds))
-        for key, said in re.findall(r"^// (Clock|Open|Cut): (.*)$", text, re.M):
+        for key, said in re.findall(r"^// (Clock|Open|Cut|Kept): (.*)$", text, re.M):
             if key == "Clock":
                 found.clocks.append(said)
             elif key == "Cut":
                 found.cuts = said.split()
+            elif key == "Kept":
+                found.kept = said.split()
             elif "=" in said:
                 net, _, level = said.rpartition("=")
                 found.held[bare(net)] = int(level)

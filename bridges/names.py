@@ -7,15 +7,15 @@ from yosys_json import Bit, Module, Vector
 
 
 class Names:
-    """A name for each net of a module: that of a port before others, then the shortest that a
-    person gave.
+    """A name for each net of a module: that of a port before others, then one of those that stay
+    (`kept`), then the shortest that a person gave.
 
     `apart` has the bits of output ports, as terminals, that no net may be called by, since a gate
     stands before them.
     """
 
-    def __init__(self, module: Module, apart: Set[str]):
-        self.apart = apart
+    def __init__(self, module: Module, apart: Set[str], kept: Set[str]):
+        self.apart, self.kept = apart, kept
         self.inputs = {port.name for port in module.inputs}
         self.outputs = {port.name for port in module.outputs}
         self.ports = self.inputs | self.outputs
@@ -30,6 +30,7 @@ class Names:
     def rank(self, net: Vector) -> tuple:
         """Names of low rank are preferred."""
         kind = 0 if net.name in self.inputs else 1 if net.name in self.outputs else 2
+        kind += net.name not in self.inputs | self.outputs | self.kept
         return kind, net.hidden, len(net.name), net.name
 
     def name(self, net: Vector):
@@ -43,7 +44,7 @@ class Names:
                 named += 1
         if named:
             self.taken.add(port.name)
-        if port.bounds and (named or net.name in self.ports):
+        if port.bounds and (named or net.name in self.ports | self.kept):
             self.vectors[port.name] = port.bounds
 
     def shown(self, net: Vector) -> str:

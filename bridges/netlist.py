@@ -84,13 +84,15 @@ class Netlist:
         yield from map(str, self.gates)
         yield "endmodule"
 
-    def keep_outputs(self, names: Set[str]):
-        """Leaves out all other outputs, and the gates on which none of these depends."""
+    def keep_outputs(self, names: Set[str], nets: List[Port]):
+        """Leaves out all other outputs, and the gates on which none of these and of the nets
+        depends.
+        """
         dropped = [port for port in self.outputs if port.name not in names]
         self.outputs = [port for port in self.outputs if port.name in names]
         self.wires += [port for port in dropped if port.bounds]
         drivers = {gate.output: gate for gate in self.gates}
-        left = [terminal for port in self.outputs for terminal in terminals(port)]
+        left = [terminal for port in self.outputs + nets for terminal in terminals(port)]
         needed = set()
         while left:
             terminal = left.pop()

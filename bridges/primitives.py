@@ -19,7 +19,7 @@ from typing import List
 from convert import Asked, Conversion
 from delays import ROUNDINGS, DefaultDelays, Reading, SdfDelays, TableDelays
 from liberty import cells_of_files
-from netlist import MOST_GATES
+from netlist import MOST_GATES, Port
 from refusal import Refusal, ending_by_name, refuse_same
 from sdf import CORNERS, read_sdf, span_of
 from yosys_json import Design
@@ -86,6 +86,7 @@ def words_of_the_line() -> argparse.Namespace:
         "--map", metavar="FILE", help="write to this file which cell and pin each net is, in JSON"
     )
     words.add_argument("--cuts", metavar="WORDS", default="", help=argparse.SUPPRESS)
+    words.add_argument("--kept", metavar="NETS", default="", help=argparse.SUPPRESS)
     words.add_argument("--words-only", action="store_true", help=argparse.SUPPRESS)
     words.add_argument(
         "--outputs", metavar="NAME,..", help="keep these outputs alone, a vector by its name"
@@ -142,6 +143,7 @@ def comments(conversion: Conversion, asked: argparse.Namespace) -> List[str]:
     lines += [f"Open: {net}={level}" for net, level in conversion.held.items()]
     lines += ["Open: latches"] * bool(conversion.opened)
     lines += [f"Cut: {asked.cuts}"] * bool(asked.cuts)
+    lines += [f"Kept: {' '.join(net.name for net in conversion.kept)}"] * bool(conversion.kept)
     share = 100 * gates / MOST_GATES
     return lines + [f"{gates:,} gates, {share:.1f} % of the {MOST_GATES:,} that tdelay reads."]
 
@@ -156,7 +158,7 @@ def keep_outputs(conversion: Conversion, asked: argparse.Namespace):
         raise Refusal(
             "NoOutput", f"there is no output {name}", f"take some of {', '.join(sorted(known))}"
         )
-    conversion.netlist.keep_outputs(wanted)
+    conversion.netlist.keep_outputs(wanted, [Port(it.name, it.bounds) for it in conversion.kept])
     conversion.notes.append(
         f"the outputs are {', '.join(sorted(wanted))} alone, and the gates on which these depend"
     )
@@ -174,7 +176,7 @@ def converted(asked: argparse.Namespace) -> Conversion:
     """The module as gates."""
     delays = delays_of(asked)
     states = {cell.name: cell.state for cell in cells_of_files(asked.library.split()) if cell.state}
-    how = Asked(asked.pins == "each", asked.latch, states)
+    how = Asked(asked.pins == "each", asked.latch, states, asked.kept.split())
     conversion = Conversion(Design(text_of(asked.netlist)), asked.top, delays, how)
     conversion.run()
     named = delays.annotation.design if asked.sdf else ""

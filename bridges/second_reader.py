@@ -86,7 +86,7 @@ class Bench:
 
     def __init__(self, sides: Sides, reader: "Reader", vectors: List[str], unnamed=frozenset()):
         self.sides, self.vectors, self.unnamed = sides, vectors, unnamed
-        head, self.folder = sides.head, reader.folder
+        head, self.folder, self.inner = sides.head, reader.folder, reader.inner
         self.clocks = [port for port in sides.inputs if port.name in head.clocks]
         self.held = [port for port in sides.inputs if port.name in head.held]
         fixed = self.clocks + self.held
@@ -174,7 +174,17 @@ class Bench:
             yield f"if ({mine} !== g{number}) begin faults = faults + 1;"
             what = f'"differs %b {port.name.replace("%", "%%")} %b %b", v, {mine}, g{number}'
             yield f"if (faults <= {SHOWN}) $display({what}); end"
+        yield from self.nets()
         yield "end endtask"
+
+    def nets(self) -> Iterator[str]:
+        """The comparison of nets that stay, though they are no outputs."""
+        for name in self.sides.head.kept:
+            mine, other = path_of(name, "own"), path_of(name, self.inner)
+            yield f"seen = seen + 1; if ((^{mine}) === 1'bx) unknown = unknown + 1;"
+            yield f"if ({mine} !== {other}) begin faults = faults + 1;"
+            what = f'"differs %b {name.replace("%", "%%")} %b %b", v, {mine}, {other}'
+            yield f"if (faults <= {SHOWN}) $display({what}); end"
 
     def deposits(self) -> Iterator[str]:
         """The same state in both: what the design begins with, else 0."""
@@ -221,6 +231,8 @@ class Reader:
         self.cells = text_of(asked.cells) + text_of(asked.simcells)
         name = re.escape(spelled(asked.top).strip())
         inner = spelled(f"{asked.top}_inner")
+        # Where the gates are, from the bench.
+        self.inner = "gates.gates" if shell else "gates"
         if shell:
             gates = re.sub(rf"^module {name}(?= )", lambda _: f"module {inner}", gates, 1, re.M)
             shell = re.sub(rf"^{name} +gates ", lambda _: f"{inner} gates ", shell, 1, re.M)

@@ -1,5 +1,5 @@
 #!/bin/sh
-# synth.sh RTL.v TOP LIBERTY OUT [--allow NAME]..
+# synth.sh RTL.v TOP LIBERTY OUT [--allow NAME].. [--keep-net NET]..
 # Synthesises RTL by yosys and ABC onto the cells of a Liberty library, as OUT.mapped.v, with
 # buffers and sizes for its loads.
 #
@@ -7,7 +7,8 @@
 # them. It may instantiate cells of the library. Modules are mapped one by one and flattened at the
 # end, so that nothing is optimised across the border of a module. A net with two drivers, z, a net
 # without a driver and one that isn't declared are refused: TwoDrivers, HighZ, NoDriver,
-# ImplicitNet. --allow NAME goes on.
+# ImplicitNet. --allow NAME goes on. A net NET of TOP stays, though nothing reads it, as those do
+# that `--keep` names in OUT.options.
 # shellcheck disable=SC2086 # words that are several files
 set -eu
 script=synth.sh
@@ -17,13 +18,14 @@ here=$(dirname "$0")
 usage 4 "$@"
 rtl=$1 top=$2 liberty=$3 out=$4
 shift 4
-allow=""
+allow="" nets=""
 while [ $# -gt 0 ]; do
     value "$1" $#
     case $1,$2 in
     --allow,TwoDrivers | --allow,HighZ | --allow,NoDriver | --allow,ImplicitNet)
         allow="$allow --allow $2"
         ;;
+    --keep-net,*) nets="$nets $2" ;;
     *) bad "$1 $2" ;;
     esac
     shift 2
@@ -35,6 +37,7 @@ given $rtl $liberty
 apart "$out.v $out.shell.v" $rtl $liberty
 fresh "$out.mapped.v $out.synth.log $out.rtl.log $out.constr $out.boxes.v" $rtl $liberty
 need yosys yosys
+nets=$(python3 "$here/options.py" nets "$out" $nets) || exit 1
 read="read_verilog -sv $rtl; write_verilog -blackboxes $out.boxes.v
     $(libraries "read_liberty -lib" $liberty)
     hierarchy -check -top $top"
@@ -45,7 +48,9 @@ sizes=""
 # A net without a driver that is allowed is 0, before anything is made of it.
 case $allow in *NoDriver*) driven="proc; setundef -zero -undriven;" ;; *) driven="" ;; esac
 logged "$out.synth.log" "mend the source, or map it by another tool" yosys -p "
-    $read; $driven synth -nofsm -top $top; simplemap; dfflibmap -liberty $liberty
+    $read; $driven
+    $(python3 "$here/options.py" steps "$top" $nets)
+    synth -nofsm -top $top; simplemap; dfflibmap -liberty $liberty
     abc $sizes -liberty $liberty
     setundef -zero; opt_clean -purge
     flatten; setundef -zero -undriven; opt_clean -purge; tee -o $out.unmapped dump t:\$*

@@ -276,7 +276,7 @@ class Designs:
         figures = re.findall(r"^(\w+): exact (\d+) ps, accepted (\d+)$", ended.out, re.M)
         if (
             ended.status
-            or len(figures) != 6
+            or len(figures) != 9
             or any(time != accepted for _, time, accepted in figures)
         ):
             self.tested.fault(f"examples/from_rtl/run.sh: {ended.status} {ended.out} {ended.err}")

@@ -1,6 +1,6 @@
 #!/bin/sh
 # run.sh OUT
-# Takes the four designs of this folder from RTL to exact figures, with the cells of
+# Takes the five designs of this folder from RTL to exact figures, with the cells of
 # bridges/tiny.lib, and leaves everything in the folder OUT: netlists, SDF files, proofs,
 # certificates, waves and pictures. TDELAY is the program, ./tdelay where it isn't set.
 set -eu
@@ -14,6 +14,7 @@ liberty=$top/bridges/tiny.lib
 
 # gates DESIGN: from RTL to gates, and the proof that they do the same.
 gates() {
+    [ ! -f "$here/$1.options" ] || cp "$here/$1.options" "$out"
     "$top/bridges/synth.sh" "$here/$1.v" "$1" "$liberty" "$out/$1"
     "$top/bridges/from_liberty.sh" "$out/$1.mapped.v" "$1" "$liberty" "$out/$1"
     "$top/bridges/equivalent.sh" "$here/$1.v" "$1" "$liberty" "$out/$1"
@@ -42,3 +43,8 @@ worst dual_rail request_falls --first 1........ --second 0........ --hold .=====
 gates carry_skip
 strategy=refute
 worst carry_skip carry_skip
+gates arbiter
+worst arbiter arbiter
+# shellcheck disable=SC2046 # options are words
+worst arbiter arbiter_code $(sed 's/#.*//' "$out/arbiter.options")
+worst arbiter any_stays --keep ok=11 --keep any=11 --output any
