@@ -49,9 +49,7 @@ fn bad(text: &mut Text, topic: Topic) -> Result<(), AllocError> {
 
 /// Appends what a condition has to be.
 pub(crate) fn bad_keep(text: &mut Text) -> Result<(), AllocError> {
-    text.push(
-        b"--keep has a net's name, = and two levels, each 0, 1 or ., or the name and ==",
-    )?;
+    text.push(b"--keep has a net's name, = and two levels, each 0, 1 or ., or the name and ==")?;
     help(
         text,
         b"ok=11 keeps a net at 1, y=01 asks for its rise, y=.. asks nothing, y== for equal levels",

@@ -1,4 +1,4 @@
-use Rattle.std.proofs.Common.{◌≡◌, ◌<◌, ◌∙◌, List, length, map, sym, ap, subst, arith, Some, slice_get}
+use Rattle.std.proofs.Common.{◌≡◌, ◌<◌, ◌∙◌, List, length, map, sym, ap, subst, arith, Some, slice_get, true}
 use Rattle.std.proofs.lemmas.List.{length-map}
 use Rattle.td_gates.proofs.Places.{some-same}
 use Rattle.td_nets.specs.Netlist.{Name}
@@ -7,6 +7,8 @@ use Rattle.td_circuit.specs.Numbering.{setting}
 use Rattle.td_circuit.specs.Settings.{Setting}
 use Rattle.td_source.specs.Each.{alone}
 use Rattle.td_source.proofs.OneOutput.{named_there}
+use Rattle.td_certificate.specs.Accepts.{are_fit}
+use Rattle.td_question.specs.Keeping.{count_nets}
 use Rattle.td_answer.specs.Names.{label}
 use Rattle.td_answer.specs.Tables.{AreTrueFigures}
 use Rattle.td_answer.proofs.each.row_of.Goals as goal
@@ -19,6 +21,14 @@ timing_of-requires-clause-held g c κs lives =
     let asked = c.in_ok-ask.ensures.asked (name_of c.index-names-place.result) at in
     rw c.circuit.ensures (c.requires.held ∙ ap (λ (s : Setting). length s.netlist.inputs) (sym asked))
 
+pub timing_of-requires-clause-fit : goal.timing_of-requires-clause-fit
+timing_of-requires-clause-fit g c κs lives =
+    let within : c.args.place < length c.names.result.now = omega (arith, length-map c.names.result.now name_of, ap (λ (ns : List Name). length ns) c.names.ensures, c.requires.place) in
+    let at = subst (λ (ns : List Name). slice_get ns c.args.place ≡ Some (name_of c.index-names-place.result)) c.names.ensures
+    (named_there c.names.result.now c.args.place c.index-names-place.result within c.index-names-place.is) in
+    let asked = c.in_ok-ask.ensures.asked (name_of c.index-names-place.result) at in
+    rw c.circuit.ensures (subst (λ (s : Setting). are_fit (count_nets s.netlist) c.args.pairs.keep.now ≡ true) (sym asked) c.requires.fit)
+
 pub returns-clause-row : goal.returns-clause-row
 returns-clause-row g c = λ output stands.
     let within : c.args.place < length c.names.result.now = omega (arith, length-map c.names.result.now name_of, ap (λ (ns : List Name). length ns) c.names.ensures, c.requires.place) in
@@ -28,6 +38,6 @@ returns-clause-row g c = λ output stands.
     let same = some-same (name_of c.index-names-place.result) output (sym at ∙ stands) in
     record {
       named = c.in_ok-output.ensures ∙ ap label same;
-      figures = subst (λ (s : Setting). AreTrueFigures s c.args.admit.now c.in_ok-found.field-0.found c.in_ok-found.field-0.edges)
+      figures = subst (λ (s : Setting). AreTrueFigures s (record { admit = c.args.pairs.admit.now; keep = c.args.pairs.keep.now }) c.in_ok-found.field-0.found c.in_ok-found.field-0.edges)
           (asked ∙ ap (alone (setting c.args.outputs.now.whole)) same) (rw c.circuit.ensures at c.in_ok-found.ensures.timing);
     }

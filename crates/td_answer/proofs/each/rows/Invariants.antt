@@ -8,4 +8,4 @@ use Rattle.td_answer.proofs.each.rows.Given as goal
 abbrev pub invariant-loop-place : goal.invariant-loop-place
 invariant-loop-place g l =
     (l.outputs.whole ≡ l.initial.outputs.whole)
-    × AllZip (IsTrueRow (setting l.initial.outputs.whole) l.admit) (take l.place l.initial.outputs.whole.netlist.outputs) l.rows.items
+    × AllZip (IsTrueRow (setting l.initial.outputs.whole) (record { admit = l.pairs.admit.now; keep = l.pairs.keep.now })) (take l.place l.initial.outputs.whole.netlist.outputs) l.rows.items

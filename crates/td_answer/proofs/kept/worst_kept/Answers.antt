@@ -1,4 +1,5 @@
-use Rattle.std.proofs.Common.{refl}
+use Rattle.std.proofs.Common.{◌≡◌, ℕ, ◌+◌, true, refl, subst, arith}
+use Rattle.td_certificate.specs.Accepts.{are_fit}
 use Rattle.std.proofs.lemmas.Result.{err_from_is_err_and}
 use Rattle.td_circuit.specs.Numbering.{setting}
 use Rattle.td_search.specs.declared.strategy.Strategy.TheVariants.{Lead}
@@ -11,7 +12,8 @@ worst_kept-requires-clause-held g c κs lives =
     asked_held c.args.text.now c.args.reading.now c.args.search.now.question (setting c.args.asked.circuit) c.args.asked.admit c.requires.asked
 
 pub worst_kept-requires-clause-fit : goal.worst_kept-requires-clause-fit
-worst_kept-requires-clause-fit g c κs lives = c.requires.keep.rising
+worst_kept-requires-clause-fit g c κs lives =
+    rw c.deref.ensures.value (subst (λ (n : ℕ). are_fit n c.args.asked.keep.items ≡ true) (omega arith) c.requires.keep.rising)
 
 pub outcome_of-requires-clause-flips : goal.outcome_of-requires-clause-flips
 outcome_of-requires-clause-flips g c =
@@ -19,7 +21,7 @@ outcome_of-requires-clause-flips g c =
 
 pub returns-in_err-answer-clause-refusal : goal.returns-in_err-answer-clause-refusal
 returns-in_err-answer-clause-refusal g c =
-    let reported = err_from_is_err_and c.from_residual-in_err-answer.result c.from_residual-in_err-answer.ensures.1 in
+    let reported = err_from_is_err_and c.from_residual.result c.from_residual.ensures.1 in
     rw (reported.1, reported.2) (refused c.args.text.now c.args.reading.now c.args.search.now c.args.asked.circuit c.args.asked.admit Lead c.requires.asked
     _ c.in_err-answer.field-0.0 c.effort_of-effort.ensures.timed c.in_err-answer.ensures.fault)
 

@@ -34,7 +34,7 @@ returns-clause-says c = record {
   some = c.in_ok-cubes.ensures.some;
   inside = c.in_ok-cubes.ensures.inside;
   told = c.in_ok-line.line;
-  has = rw c.deref.ensures.value at c.in_ok-line.ensures;
+  has = rw (c.deref.ensures.value, c.deref-2.ensures.value, c.in_ok-keep.ensures) at c.in_ok-line.ensures;
   is = c.done.ensures.report ∙ c.in_ok-report.ensures;
   ends = c.done.ensures.status;
 }
