@@ -97,7 +97,7 @@ ELSEWHERE = {"docs/FROM-RTL.md": "bridging/designs.py", "docs/MANY-MACHINES.md":
 # Numbers of README.md, each with the page or script that has it too.
 COSTS, BESIDE = "docs/FIGURES.md", "docs/BESIDE.md"
 NUMBERS = [
-    (r"\((\d+) seconds on\s+four\s+processors", COSTS, r"c17\.v`, the first \| \S+ 3` \| (\d+) \|"),
+    (r"\((\d+)\s+seconds\s+on\s+four\s+processors", COSTS, r"c17\.v`, the first \| \S+ 3` \| (\d+) \|"),
     (r"(\d+)\s+minutes\s+on\s+two\s+processors", COSTS, r"\| 2 \| (\d+) minutes \|"),
     (r"\| ([\d.]+) ps \(OpenSTA\)", BESIDE, r"`carry_skip` \| 33 \| ([\d.]+) \|"),
     (r"(\d+) ps after 10,000 ", BESIDE, r"`carry_skip` \|(?: [\d.]+ \|){3} (\d+) \|"),
