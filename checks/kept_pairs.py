@@ -30,18 +30,13 @@ PARTS = 3
 
 def options_of(rng, circuit, words, keep):
     """The words of a command line that ask this."""
-    options = [
-        f"--{name}={value}"
-        for name, value in words.items()
-        if value not in (None, "") and name != "at"
-    ]
-    if words["at"]:
-        options.append("--at=" + ",".join(map(str, words["at"])))
     nets = nets_of(circuit)
-    said = [circuit.nets[nets[number]] + ("==" if form == "==" else f"={form}") for number, form in keep]
+    said = [
+        circuit.nets[nets[number]] + ("==" if form == "==" else f"={form}") for number, form in keep
+    ]
     said += rng.sample(said, min(len(said), rng.choice([0, 0, 1])))
     rng.shuffle(said)
-    return options + [word for it in said for word in ("--keep", it)]
+    return opinions.options_of(words) + [word for it in said for word in ("--keep", it)]
 
 
 def wanted_line(worst):

@@ -575,8 +575,8 @@ def compare_bounds(setup, question):
     )
 
 
-def worst(setup, words, budget, strategy):
-    """The certificate that `worst` writes, or None where it has no exact answer."""
+def options_of(words):
+    """The words of a question as options."""
     options = [
         f"--{name}={value}"
         for name, value in words.items()
@@ -584,11 +584,16 @@ def worst(setup, words, budget, strategy):
     ]
     if words["at"]:
         options.append("--at=" + ",".join(map(str, words["at"])))
+    return options
+
+
+def worst(setup, words, budget, strategy):
+    """The certificate that `worst` writes, or None where it has no exact answer."""
     setup.tested.remove("written")
     setup.program(
         "worst",
         "t.v",
-        *options,
+        *options_of(words),
         "--budget",
         str(budget),
         "--strategy",
