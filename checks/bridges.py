@@ -371,9 +371,9 @@ def work(tested):
         return
     for with_registers in FIRST:
         random_netlist(tested, with_registers)
+    promised.work(tested)
     refusals.work(tested)
     cases.work(tested)
-    promised.work(tested)
     blocks.work(tested)
     designs.work(tested)
     plants(tested)

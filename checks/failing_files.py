@@ -26,6 +26,7 @@ COMMANDS = [
     Command(["bound", "t.v", "--edges"], ["t.v"], None),
     Command(["worst", "t.v", "--cert", "new"], ["t.v"], "new"),
     Command(["parts", "t.v", "--parts", "2"], ["t.v"], None),
+    Command(["worst", "t.v", "--keep-file", "kept"], ["t.v", "kept"], None),
     Command(["info", "t.v"], ["t.v"], None),
     Command(["check", "t.v", "p0"], ["t.v", "p0"], None),
     Command(["join", "t.v", "p0", "p1", "--cert", "new"], ["t.v", "p0", "p1"], "new"),
@@ -86,6 +87,7 @@ class Failing:
 
 def work(tested):
     tested.write("t.v", INVERTER)
+    tested.write("kept", "y 01\n")
     for bit in "01":
         tested.run("worst", "t.v", "--first", bit, "--second", ".", "--cert", f"p{bit}")
     failing = Failing(tested)

@@ -9,11 +9,11 @@ The tables:
 - `speed`: searches, their seconds and memory; of two programs PROGRAM is the one before a change,
   and OTHER the one after it.
 - `workers`: searches by 1, 2 and 4 workers, by the clock.
-- `parts`: one search at once, by 4 workers, and in parts by examples/many_machines.sh.
 - `growth`: circuits by `auto`, in families, by their gates; lint/plots.py draws this table.
 - `strategies`: each netlist by each strategy that the program has.
 - `collection`: how many netlists of a folder are exact, by the strategy `auto` or `--strategies`.
-- `refutations`: certificates by `refute`: their bytes, and what `check` takes.
+- `promises`, `changes`, `hazards`: questions with conditions, the latest rise, fall and glitch of
+  each output, and whether it can glitch.
 - `hostile`: certificates that are as long, wide or wrong as a text allows, and what `check` takes.
 - `first`: the first command in a fresh clone of what is committed, which compiles, and later ones.
 
@@ -37,7 +37,7 @@ import re
 import sys
 import time
 
-from lib import costs, hostile, places, running, searches
+from lib import costs, hostile, places, promised, running, searches
 from lib.table import Table, folded
 
 sys.path.append(os.path.join(places.TOP, "build"))
@@ -47,16 +47,20 @@ TABLES = {
     "commands": costs.commands,
     "speed": searches.speed,
     "workers": searches.workers,
-    "parts": costs.parts,
     "growth": searches.growth,
     "strategies": searches.strategies,
     "collection": searches.collection,
-    "refutations": costs.refutations,
+    "promises": promised.promises,
+    "changes": promised.changes,
+    "hazards": promised.hazards,
     "hostile": hostile.hostile,
     "first": costs.first,
 }
+# The page has no place for these: those asked for before and after a change, and of conditions.
+UNPLACED = {"speed", "workers", "promises", "changes", "hazards"}
 # Those of which each figure is of one run, and those that have instructions where they are asked.
-ONCE, COUNTED = {"strategies", "collection", "hostile"}, {"commands", "speed"}
+ONCE = {"strategies", "collection", "promises", "changes", "hazards", "hostile"}
+COUNTED = {"commands", "speed"}
 
 
 def conditions(table):
@@ -97,8 +101,7 @@ def call():
     words.add_argument("--budget", type=int, metavar="N", help="where a table has none of its own")
     words.add_argument("--runs", type=int, default=7, metavar="N")
     words.add_argument("--seconds", type=int, default=120, metavar="N")
-    words.add_argument("--jobs", type=int, default=1, metavar="N",
-                       help="of `collection`, and of the searches of `refutations`")  # fmt: skip
+    words.add_argument("--jobs", type=int, default=1, metavar="N", help="of `collection`")
     words.add_argument("--instructions", action="store_true",
                        help="of `speed` and `commands`, by valgrind")  # fmt: skip
     words.add_argument("--clone", metavar="FOLDER",

@@ -216,7 +216,7 @@ def path_words(rng, inputs):
 
 def bound_words(rng, inputs):
     words = [*pins(rng, inputs), *moments(rng, inputs)]
-    return ["t.v", *words, *flags(rng, ("--edges",), ("--outputs",))]
+    return ["t.v", *words, *flags(rng, ("--edges",), ("--outputs",), ("--earliest",))]
 
 
 def worst_words(rng, inputs):

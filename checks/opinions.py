@@ -17,7 +17,7 @@ import re
 import shutil
 import sys
 
-from lib import check, conditions
+from lib import check, conditions, event_queue
 from lib.netlists import KINDS
 
 import second_domains
@@ -25,6 +25,8 @@ import second_opinion as opinion
 from second_opinion import X
 
 CASES = 6000
+# Of so many free positions all pairs are run.
+MOST_FREE = 8
 SYMBOLS = {"first": "01.", "second": "01.", "hold": ".=", "from": "01", "to": "01"}
 
 
@@ -546,9 +548,28 @@ def compare_runs(setup):
     )
 
 
+def all_pairs(pins):
+    """All pairs of pins, as cubes."""
+    return [list(pair) for pair in itertools.product(*((0, 1) if it == X else (it,) for it in pins))]
+
+
+def require_earliest(setup, question, earliest):
+    """That no pair of the pins changes an output before this moment, by runs of all of them."""
+    pairs = all_pairs(question.pins)
+    first = event_queue.earliest_change(setup.circuit, pairs, question.moments)
+    if first is not None and (earliest is None or first < earliest):
+        keep(setup.tested)
+        setup.tested.fault(
+            f"earliest {earliest}, and a pair of {question} changes an output at {first}\n"
+            f"{setup.netlist.decode('latin-1')}"
+        )
+    setup.tested.case("earliest: reached" if first == earliest else "earliest: before all changes")
+
+
 def compare_bounds(setup, question):
-    """Compares the bounds of the pins, and which output has the bound `m`, with what
-    `bound --edges --outputs` reports."""
+    """Compares the bounds of the pins, which output has the bound `m`, and when outputs change
+    first, with what `bound --edges --outputs --earliest` reports; and that moment with runs of all
+    pairs where they are few."""
     circuit = setup.circuit
     if circuit.inputs == 0:
         return
@@ -567,12 +588,16 @@ def compare_bounds(setup, question):
         for net, bound in zip(circuit.outputs, of_outputs)
         if bound == dict(bounds)["m"]
     ][:1]
+    earliest = second_domains.earliest(circuit, question.pins, question.moments)
+    lines.append(f"earliest {'none' if earliest is None else earliest}")
     ours = opinion.report([f"unit {circuit.unit}", f"defaulted {circuit.defaulted}", *lines]), "", 0
     at = "--at=" + ",".join(map(str, question.moments))
-    words = ["bound", "t.v", *pins, at, "--edges", "--outputs"]
+    words = ["bound", "t.v", *pins, at, "--edges", "--outputs", "--earliest"]
     setup.compare(
         words, ours, lambda out, _, __: ["bound: none" if "none" in out else "bound: all five"]
     )
+    if question.pins.count(X) <= MOST_FREE:
+        require_earliest(setup, question, earliest)
 
 
 def options_of(words):

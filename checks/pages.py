@@ -443,7 +443,8 @@ class Pages:
                 netlist = self.read_prose(body) or netlist
             elif language == "sh":
                 for line in re.findall(r"^\./tdelay .*$", body, flags=re.M):
-                    self.run(own_part(line))
+                    # A required time may be violated.
+                    self.run(own_part(line), (0, 6) if " --required " in line else (0,))
             elif language == "python":
                 self.run_python(body)
             elif language == "rust":

@@ -5,16 +5,17 @@ compares each run with one that has memory enough.
 A run may answer the same; or end with status 5, `tdelay: out of memory` and nothing but a beginning
 of its output; or, a search, answer `between` with `cause memory` (`cause budget`, too, where it
 does with memory enough) and two figures around the right one, or `exact` with the right time and a
-certificate that `check` accepts. A table of outputs has some such rows then. Where the root of a
-search is measured and bounded, and its report isn't begun, a growth refused alone may not end it as
-out of memory: it has to answer. That is so after as many growths as the same search takes with a
-budget of 0, and until the last ones, which are the report's. Searches are those of a lost pulse, of
-two ways that meet, and of a slow arm, by 1, 2 and 4 workers. `check` gives its verdict, of a
-certificate with a leaf by spans too, or is out of memory, and never another verdict.
+certificate that `check` accepts; one with conditions that found no pair yet `between none` and the
+right time or a later one. A table of outputs has some such rows then. Where the root of a search is
+measured and bounded, and its report isn't begun, a growth refused alone may not end it as out of
+memory: it has to answer. That is so after as many growths as the same search takes with a budget of
+0, and until the last ones, which are the report's. Searches are those of a lost pulse, of two ways
+that meet, and of a slow arm, by 1, 2 and 4 workers. `check` gives its verdict, of a certificate
+with a leaf by spans too, or is out of memory, and never another verdict.
 
-Each case is a refused growth, or all from one on. All of them are some 32,000, of which those after
-roots are tried, and a random choice of the others. Of 100 cases 5 at least are searches of which
-the root was known, and 30 out of memory. It needs a C compiler, `cc`.
+Each case is a refused growth, or all from one on. A random choice is tried, half of it after roots,
+the first ones after the root of a search with conditions among them. Of 100 cases 5 at least are
+searches of which the root was known, and 25 out of memory. It needs a C compiler, `cc`.
 """
 
 import os
@@ -27,6 +28,8 @@ from lib import check, netlists, places, reports, running
 CASES = 8000
 # The most growths that a report takes.
 OF_REPORT = 16
+# The growths after the root of a search with conditions that are tried: no pair is found yet.
+EARLY = 64
 # What is reported where no thread can be had for a timer.
 NO_TIMER = ["tdelay: no timer\n"]
 # After the last growth.
@@ -82,7 +85,9 @@ OTHERS = [
     ["worst", "lost.v", "--each", "--strategy", "least"],
     ["sim", "c17.v", "01010", "01110", "--outputs"],
     ["bound", "c17.v", "--output", "N23"],
-    ["bound", "met.v", "--edges", "--outputs"],
+    ["bound", "met.v", "--edges", "--outputs", "--earliest"],
+    ["worst", "met.v", "--keep-file", "kept", "--keep", "a=1.", "--cert", "out.cert"],
+    ["parts", "met.v", "--parts", "2", "--keep-file", "kept"],
     ["parts", "c17.v", "--parts", "3", "--output", "N22"],
     ["check", "c17.v", "n22.cert", "--output", "N22"],
     ["check", "lost.v", "lost.cert"],
@@ -140,6 +145,7 @@ def make_files(tested):
         tested.write(name, text)
     with open(places.example("c17.v"), "rb") as file:
         tested.write("c17.v", file.read())
+    tested.write("kept", "b 0. # conditions\n\nb ==\n")
     for name, words in CERTIFICATES.items():
         done = tested.run("worst", *words, "--cert", name)
         if done.status != 0 or tested.read(name) is None:
@@ -172,6 +178,8 @@ def command_of(refuser, words, is_rooted):
     if words[0] == "worst" and "--each" not in words:
         worst = reports.figures_of(refuser.run(with_budget(words, None))[0].out).low
     rooted = rooted_of(refuser, words) if is_rooted else range(0)
+    if words[0] == "worst" and "--keep" in words:
+        rooted = rooted_of(refuser, words)[:EARLY]
     return Command(words, ample, worst, growths, rooted)
 
 
@@ -224,7 +232,9 @@ def how_it_ended(tested, command, got):
         return "out of memory" if whole else None
     if "--each" in command.words:
         return how_table_ended(ample, got)
-    figures = reports.figures_of(got.out)
+    figures, bound = reports.figures_of(got.out), reports.bound_without_pair(got.out)
+    if bound is not None and "--keep" in command.words:
+        figures = reports.Figures(0, bound)
     if got.err or figures is None or command.worst is None:
         return None
     # A later search of the same command may have gone on, and ended by its budget as it does where
@@ -232,7 +242,9 @@ def how_it_ended(tested, command, got):
     causes = ["memory"] + ["budget"] * ("\ncause budget\n" in ample.out)
     is_cut = got.status == 3 and any(f"\ncause {it}\n" in got.out for it in causes)
     if is_cut and got.written == (None, None):
-        return "between" if figures.low <= command.worst <= figures.high else None
+        if not figures.low <= command.worst <= figures.high:
+            return None
+        return "between" if bound is None else "between, no pair yet"
     if (
         got.status == 0
         and figures == (command.worst, command.worst)
@@ -263,7 +275,8 @@ def try_growth(tested, refuser, command, first, last):
 
 def chosen(tested, commands):
     """The growths that are tried, by commands: those after roots, to a half of all, and a random
-    choice of the others; all where as many are asked for.
+    choice of the others; all where as many are asked for. Those of searches with conditions come
+    first, as they are few.
     """
     every = [
         (place, first, last)
@@ -273,6 +286,7 @@ def chosen(tested, commands):
     ]
     tested.random.shuffle(every)
     rooted = [it for it in every if it[1] == it[2] and it[1] in commands[it[0]].rooted]
+    rooted.sort(key=lambda it: "--keep" not in commands[it[0]].words)
     rooted = set(rooted[: tested.most // 2])
     others = [it for it in every if it not in rooted]
     return sorted([*rooted, *others[: tested.most - len(rooted)]])
@@ -281,7 +295,9 @@ def chosen(tested, commands):
 def work(tested):
     make_files(tested)
     refuser = Refuser(tested)
-    commands = [command_of(refuser, words, words in ROOTED) for words in ROOTED + OTHERS]
+    # Those with conditions come first, so that a program that lies of them is soon found out.
+    every = sorted(ROOTED + OTHERS, key=lambda words: "--keep" not in words)
+    commands = [command_of(refuser, words, words in ROOTED) for words in every]
     ends = Counter()
     try:
         for place, first, last in chosen(tested, commands):
@@ -299,9 +315,10 @@ def work(tested):
 
 def shares(tested, _cut):
     tested.require("growth refused", 0.95)
-    tested.require("out of memory", 0.3)
+    tested.require("out of memory", 0.25)
     tested.require("root known, answered", 0.05)
     tested.require("between", 0.01)
+    tested.require("between, no pair yet", 0.002)
 
 
 if __name__ == "__main__":

@@ -3,7 +3,7 @@
 answers, how long a run took that is known to sleep, and which runs didn't end; programs that
 contradict each other, answers that aren't the known ones, and certificates that aren't accepted end
 it with status 1; bad words are refused; `--write` puts a table into its place in a page, and
-docs/FIGURES.md has a place for each. The gate is run of a toolchain that does nothing.
+docs/FIGURES.md has a place for each but five. The gate is run of a toolchain that does nothing.
 """
 
 import os
@@ -22,8 +22,6 @@ LIES = {
     # One more, where a search is exact.
     "more": """$R "$@" | awk '$1 == "exact" { $2 += 1 } 1'; exit ${PIPESTATUS[0]}""",
     "later": """$R "$@" | awk '$1 == "time" { $2 += 1 } 1'; exit ${PIPESTATUS[0]}""",
-    "joins": 'if [ "$1" = join ]; then $R "$@" | sed s/^unchecked.20/unchecked.21/; else exec $R "$@"; fi',
-    "drops": 'if [ "$1" = parts ]; then $R "$@" | sed \\$d; else exec $R "$@"; fi',
     "refuses": 'if [ "$1" = check ]; then echo refused 1 WrongTime; exit 4; fi; exec $R "$@"',
     "sleeps": 'sleep 1; exec $R "$@"',
     "hangs": 'if [[ "$*" =~ lead|inverters ]]; then exec sleep 100; fi; exec $R "$@"',
@@ -51,7 +49,7 @@ PROVERS += [("check --incremental out/incremental", watch.PROOF), ("build --test
 PROVERS += [("check", watch.EDIT), ("check --incremental /tmp/rt-edits-1", watch.EDIT)]
 PROVERS += [("check --incremental /tmp/rt-edits-1/seed", watch.AGAIN)]
 # Words that are refused, before anything is measured.
-BAD = ["", "speeds P", "commands P P", "parts P P", "speed P P P", "speed --runs 0 P"]
+BAD = ["", "speeds P", "commands P P", "speed P P P", "speed --runs 0 P"]
 BAD += ["collection P", "workers --instructions P", "commands --seconds 0 P", "first --jobs 0 P"]
 
 
@@ -152,35 +150,6 @@ def by_workers(tested):
     tested.expect(f"{text}what is answered", (0, "`exact 3`", True), (status, cells[1], slow))
 
 
-def by_parts(tested):
-    """Cases: the table `parts`, of an adder of three bits, with programs that lie."""
-    words = ["parts", *nets(tested, "adder_6", circuits.adder(3)), "--runs", "1"]
-    status, rows, text = lists(tested, *words, tested.program)
-    names = ["one `worst`", "`--workers 4`", "1 part", "4 parts", "16 parts", "64 parts"]
-    tested.expect(f"{text}the searches", (0, names), (status, [cells[0] for cells in rows]))
-    tested.expect("the answers", {"`exact 20`"}, {cells[1] for cells in rows})
-    nodes = [int(cells[2].replace(",", "")) for cells in rows]
-    tested.expect("nodes of many parts", (nodes[0], True), (nodes[2], nodes[5] > nodes[0] > 1000))
-    for name in ("joins", "drops"):
-        status, _, text = lists(tested, *words, lie(tested, name))
-        tested.expect(f"{text}a program that {name}", (1, True), (status, "wrong: " in text))
-
-
-def by_refutations(tested):
-    """Cases: the table `refutations`, of a multiplier of three bits."""
-    words = ["refutations", *nets(tested, "mult_6", circuits.multiplier(3)), "--runs", "1"]
-    status, rows, text = table(tested, *words, tested.program)
-    done = tested.run("worst", "nets/mult_6.v", "--strategy", "refute", "--cert", "c")
-    exact, size = done.out.splitlines()[2], len(tested.read("c") or b"")
-    wanted = (0, [f"`{exact}`", f"{size:,}"], True)
-    tested.expect(f"{text}{done}", wanted, (status, rows.get("mult_6", [])[:2], size > 500))
-    status, _, text = table(tested, *words, lie(tested, "refuses"))
-    tested.expect(f"{text}no certificate is accepted", (1, True),
-                  (status, "wrong: check of mult_6: " in text))  # fmt: skip
-    status, rows, text = table(tested, "refutations", "--only", "absent", tested.program)
-    tested.expect("no netlist", (0, {}, True), (status, rows, "weren't there: absent." in text))
-
-
 def by_growth(tested):
     """Cases: the table `growth`, of an adder of 8 bits, and with a program that refuses all."""
     words = ["growth", "--only", "adder_8", "--runs", "1"]
@@ -250,6 +219,21 @@ def collections(tested):
                   (status, refused))  # fmt: skip
 
 
+def by_conditions(tested):
+    """Cases: the tables of questions with conditions."""
+    for name, only, wanted in (
+        ("promises", "rrarb16", ["base_ok=11 req_ok=11", "`exact 2410`"]),
+        ("hazards", "rrarb16", ["base_ok=11 req_ok=11", "17", "16 never, 1 none", "17 can", "0"]),
+        ("changes", "c432x", ["7", "20", "0", "1"]),
+    ):
+        words = [name, "--seconds", "40", "--only", only]
+        status, rows, text = lists(tested, *words, tested.program)
+        shown = [cells[1 : 1 + len(wanted)] for cells in rows]
+        tested.expect(f"{text}{name}", (0, True), (status, wanted in shown))
+    status, _, text = lists(tested, "promises", "--only", "rrarb16", lie(tested, "refuses"))
+    tested.expect(f"{text}no certificate is accepted", (1, True), (status, "wrong: " in text))
+
+
 def written(tested):
     """Cases: tables that are put into a page."""
     page = tested.write("page.md", PAGE)
@@ -267,7 +251,8 @@ def written(tested):
     tested.expect(f"{text}a page without a place", (1, before), (status, after))
     marks = r"(?m)^<!-- Written by (\S+ \w+), to the next comment. -->$"
     found = re.findall(marks, places.text_of("docs", "FIGURES.md"))
-    wanted = ["build/gate.py proofs", *(f"checks/figures.py {name}" for name in figures.TABLES)]
+    placed = sorted(set(figures.TABLES) - figures.UNPLACED)
+    wanted = ["build/gate.py proofs", *(f"checks/figures.py {name}" for name in placed)]
     tested.expect("the places in docs/FIGURES.md", sorted(wanted), sorted(found))
 
 
@@ -322,8 +307,9 @@ def gates(tested):
 
 
 def work(tested):
-    parts = [speeds, by_commands, by_strategies, by_workers, by_parts, by_refutations, by_hostile]
-    for part in [*parts, by_growth, by_first, collections, written, refusals, gates]:
+    parts = [speeds, by_commands, by_strategies, by_workers, by_hostile]
+    parts += [by_growth, by_first, collections, by_conditions, written, refusals, gates]
+    for part in parts:
         part(tested)
         if tested.wrong:
             # A program that can't answer one question takes long to fail the others.

@@ -225,3 +225,10 @@ def bound(letter, circuit, cube, moments):
     """The bound of the cube, None where there is none."""
     least = bounds(letter, circuit, cube, moments)
     return None if None in least else latest_of(least)
+
+
+def earliest(circuit, cube, moments):
+    """The moment before which no output changes, by edges; None where none ever does."""
+    found = signals(EDGES, circuit, cube, moments)
+    starts = [found[net].earliest for net in circuit.outputs if found[net].ends[X]]
+    return min(starts, default=None)

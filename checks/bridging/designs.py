@@ -278,6 +278,7 @@ class Designs:
             ended.status
             or len(figures) != 9
             or any(time != accepted for _, time, accepted in figures)
+            or not re.search(r"^sum_stays: (?:exact )?(.+) ps, accepted \1$", ended.out, re.M)
         ):
             self.tested.fault(f"examples/from_rtl/run.sh: {ended.status} {ended.out} {ended.err}")
         if versions() != VERSIONS:

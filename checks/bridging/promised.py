@@ -1,5 +1,5 @@
-"""Conditions from RTL: the words of OUT.options, nets that stay for them, and what the environment
-promises, as a module beside the design.
+"""Conditions from RTL: the words of OUT.options, nets that stay for them, what the environment
+promises, as a module beside the design, and the hazards of a design whose lines change one by one.
 """
 
 import json
@@ -10,9 +10,10 @@ from lib.places import text_of
 
 from .cases import Cases
 from .designs import KEPT, VERSIONS, versions
+from .icarus import last_changes
 from .tools import LIBRARY, read, script, write
 
-ARBITER = os.path.join(KEPT, "arbiter.v")
+ARBITER, ONES = (os.path.join(KEPT, f"{name}.v") for name in ("arbiter", "ones"))
 ADDER = "module d(input [2:0] a,b, output [2:0] y); assign y=a+b; endmodule\n"
 TOP_OF = """module t(input [2:0] a,b, output [2:0] y); wire ok; d d0(a,b,y); p p0(a,ok); endmodule
 module p(input [2:0] a, output ok); assign ok = {}; endmodule
@@ -160,10 +161,39 @@ class Promised(Cases):
             shown = re.search(r"^\| all outputs \| \D*(\d+)\D* \| \D*(\d+)", page, re.M)
             self.same("the figures of the one command", list(shown.groups()), made)
 
+    def hazards(self):
+        """The hazards of lines that change one by one are those that Icarus shows of all pairs."""
+        self.run("synth.sh", ONES, "ones", LIBRARY, "made")
+        self.run("from_liberty.sh", "made.mapped.v", "ones", LIBRARY, "made")
+        gates = read(self.tested.folder, "made.v")
+        flips = [(at, at ^ 1 << place) for at in range(16) for place in range(4)]
+        pairs = [(f"{before:04b}", f"{after:04b}") for before, after in flips]
+        late = {}
+        for pair, changes in zip(pairs, last_changes(self.tested.folder, gates, pairs)):
+            ones = [vector.count("1") for vector in pair]
+            for place, last in zip((2, 1, 0), changes):
+                level = ones[0] >> place & 1
+                if level == ones[1] >> place & 1 and last >= 0:
+                    late.setdefault((f"sum[{place}]", level), []).append(pair)
+        said = self.tested.run("worst", "made.v", "--hazards", "--flips", "1").out
+        rows = re.findall(r"(?m)^hazard (\S+) ([01]) (never|can (\d+) (\d+))$", said)
+        self.same("rows of hazards", 6, len(rows))
+        for name, level, told, *pair in rows:
+            found = late.get((name, int(level)), [])
+            self.same(f"the hazard {name} {level}: {told}", bool(found), told != "never")
+            if told != "never":
+                self.same(f"its pair, of {found}", True, tuple(pair) in found)
+        self.same("some hazard", True, bool(late))
+        if versions() == VERSIONS:
+            shown = said.partition("\ndefaulted 0")[2] + "```\n"
+            page = text_of("examples", "from_rtl", "README.md")
+            self.same("the page's hazards", True, "```" + shown in page)
+
 
 def work(tested):
     """All of them."""
     cases = Promised(tested)
+    cases.hazards()
     cases.used()
     cases.apart()
     cases.bad()

@@ -1,9 +1,6 @@
-"""Tables of what is no search alone: whole commands on long texts, the first command, a search in
-parts, and certificates with leaves by spans.
-"""
+"""Tables of what is no search alone: whole commands on long texts, and the first command."""
 
 import os
-from concurrent.futures import ThreadPoolExecutor
 
 from . import measuring, places, running
 from .table import number, seconds_of, words_of
@@ -31,10 +28,6 @@ COMMANDS = [
     ("chain_200000", ["worst"], ["exact 200000", "nodes 1"]),
     ("chain_200000", ["check"], ["accepted 200000"]),
 ]
-# What is searched in parts, in how many, and by how many processes or workers at a time.
-CUT, PARTS, AT_A_TIME = "adder_6", (1, 4, 16, 64), 4
-SCRIPT = places.example("many_machines.sh")
-REFUTED = "mult_6 mult_8 mult_10 c432x c880x c1908x grayptr mul8 booth8".split()
 # The first command compiles, which takes longer than a search may.
 COMPILING = 1_200
 
@@ -84,54 +77,3 @@ def first(table):
         places_after = 0 if run.cost.clock >= 10 else 3
         both = (seconds_of(run, by, places_after) for by in ("clock", "processor"))
         table.add(name, run.answer(), *both, number(run.cost.memory))
-
-
-def parts(table):
-    """One question searched at once, by workers, and in parts side by side."""
-    path = table.path(CUT)
-    if path is None:
-        return
-    program, words = table.asked.programs[0], words_of("least", 10_000_000)
-    certificate = os.path.join(table.folder, f"{CUT}.cert")
-    as_parts = ["env", f"TDELAY={program}", f"JOBS={AT_A_TIME}", "bash", SCRIPT, path]
-    one = [program, "worst", path, *words]
-    asked = {"one `worst`": one, f"`--workers {AT_A_TIME}`": [*one, "--workers", str(AT_A_TIME)]}
-    for count in PARTS:
-        asked[f"{count} part{'s' * (count > 1)}"] = [*as_parts, str(count), certificate, *words]
-    table.head(
-        "Search", "Answer", "Nodes", "Seconds by the clock", "Processor seconds", "Memory, MB"
-    )
-    runs = []
-    for name, command in asked.items():
-        runs += table.least_of([command], "clock")
-        run = runs[-1]
-        if command[0] == "env" and run.exact is not None:
-            table.answer(name, run, [f"accepted {run.exact}"])
-        both = (seconds_of(run, by) for by in ("clock", "processor"))
-        table.add(name, run.answer(), number(run.nodes()), *both, number(run.cost.memory))
-    table.agree(CUT, runs)
-
-
-def refutations(table):
-    """Certificates of `refute`: their bytes, and what `check` takes."""
-    program, words = table.asked.programs[0], words_of("refute", table.asked.budget)
-    paths = {name: table.path(name) for name in REFUTED}
-    paths = {name: path for name, path in paths.items() if path}
-
-    def search(path):
-        command = [program, "worst", path, *words, "--cert", table.certificate(path)]
-        return measuring.measured(command, table.asked.seconds)
-
-    with ThreadPoolExecutor(table.asked.jobs) as pool:
-        runs = dict(zip(paths, pool.map(search, paths.values())))
-    table.head("Netlist", "Answer", "Certificate, bytes", "Seconds of `check`", "Memory, MB")
-    for name, run in runs.items():
-        table.agree(name, [run])
-        cells = ["-"] * 3
-        if run.exact is not None:
-            certificate = table.certificate(paths[name])
-            (done,) = table.least_of([[program, "check", paths[name], certificate]])
-            table.answer(f"check of {name}", done, [f"accepted {run.exact}"])
-            size = os.path.getsize(certificate)
-            cells = [number(size), seconds_of(done), number(done.cost.memory)]
-        table.add(f"`{name}`", run.answer(), *cells)

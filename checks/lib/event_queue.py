@@ -121,3 +121,10 @@ def latest_change(circuit, pairs, moments):
         return 0
     waves = run_of(circuit, pairs, moments).waves
     return max((max(0, waves[net][-1][0]) for net in circuit.outputs), default=0)
+
+
+def earliest_change(circuit, pairs, moments):
+    """The first moment at which an output changes for one of these pairs, None where none does."""
+    waves = run_of(circuit, pairs, moments).waves
+    firsts = [waves[net][1][0] for net in circuit.outputs if len(waves[net]) > 1]
+    return min(firsts, default=None)

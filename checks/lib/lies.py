@@ -44,6 +44,7 @@ LIES = {
         "a last change at another moment": where(
             "sim", edited(r"s/^last \(.*\) \([0-9]*\)$/last \1 1\2/")
         ),
+        "no output can glitch": where("--hazards", edited(r"s/ can [01]* [01]*$/ never/")),
     },
     "slurm": {"a joined time that is one more": where("join", MORE.format(key="unchecked", by=1))},
     "budgets": {"a time that is one less": where("worst", MORE.format(key="exact", by=-1))},
@@ -64,6 +65,14 @@ LIES = {
     "install": {
         "a time that is one more": where("worst", MORE.format(key="exact", by=1)),
         "help without one of the values": where("--help", edited("s/least, //")),
+    },
+    "kept_pairs": {
+        "a latest rise that is one more": where("--changes", edited(r"s/ rise \([0-9]\)/ rise 1\1/")),
+        "a fall that never comes": where("--changes", edited(r"s/ fall [0-9]*/ fall never/")),
+        "a hazard without a pair": where("--hazards", edited(r"s/ never$/ none/")),
+        "a row's question that stays open": where(
+            "--required 0", edited(r"s/^required 0 met/required 0 open/")
+        ),
     },
     "limits": {"too many is bad syntax": '$R "$@" 2> >(sed s/TooMany/Syntax/ >&2); exit $?'},
     "memory_limits": {"out of memory is well": FIVE + " 0; exit $status"},
@@ -88,13 +97,25 @@ LIES = {
         "exit ${PIPESTATUS[0]}",
         "a bound that is none is a bad step": edited("s/refused 3 LeafBound/refused 10 BadStep/"),
     },
-    "refused_growths": {"a search after its root is out of memory": 1},
+    "refused_growths": {
+        "a search after its root is out of memory": 1,
+        "a figure below the worst delay before a pair is found": 3,
+    },
     "real": {"a time that is one less": where("worst", MORE.format(key="exact", by=-1))},
+    "required": {
+        "a violated moment is met": where("--required", edited("s/ violated$/ met/")),
+        "a violated moment ends well": where(
+            "--required", '$R "$@"; status=$?; [ $status = 6 ] && exit 0; exit $status'
+        ),
+        "an upper figure that is one less": where(
+            "--cert-between",
+            """$R "$@" | awk '$1 == "between" && $3 > 1 { $3 -= 1 } 1'; exit ${PIPESTATUS[0]}""",
+        ),
+    },
     "strategies": {"a time that is one less": where("lead", MORE.format(key="exact", by=-1))},
     "swaps": {"a place of another reading": PLACED_BEFORE},
     "tables": {
         "a time that is one more": where("worst", MORE.format(key="exact", by=1)),
-        "a joined time that is one more": where("join", MORE.format(key="unchecked", by=1)),
         "a run that ends one later": where("sim", MORE.format(key="time", by=1)),
     },
     "terminals": {

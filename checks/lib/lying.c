@@ -1,7 +1,8 @@
 /* A program that runs another one (REAL) and lies where memory or a file fails. It takes no memory,
    and reads and writes by system calls alone, so that what stands between a program and the C
    library doesn't meet it. LIE 1: a search that memory cut short is out of memory. LIE 2: where the
-   program ends with status 5 a file `new` is left. */
+   program ends with status 5 a file `new` is left. LIE 3: where no pair is found yet, the figure is
+   0. */
 #include <fcntl.h>
 #include <string.h>
 #include <sys/syscall.h>
@@ -15,7 +16,8 @@ static void put(int file, const char *bytes, long count) {
 }
 
 int main(int count, char **words) {
-  static const char told[] = "tdelay: out of memory\n";
+  static const char told[] = "tdelay: out of memory\n", unfound[] = "between none ";
+  char *line;
   int pipes[2], status;
   long length = 0, got;
   (void)count;
@@ -37,6 +39,7 @@ int main(int count, char **words) {
     put(2, told, sizeof told - 1);
     status = 5;
   } else {
+    if (LIE == 3 && (line = strstr(text, unfound))) line[sizeof unfound - 1] = '0';
     if (LIE == 2 && status == 5) put(open("new", O_WRONLY | O_CREAT | O_TRUNC, 0644), "x", 1);
     put(1, text, length);
   }

@@ -27,6 +27,12 @@ def figures_of(report):
     return Figures(*map(int, words))
 
 
+def bound_without_pair(report):
+    """The upper figure of a search with conditions that found no pair yet; None of any other."""
+    low, _, high = values_of(report).get("between", "").partition(" ")
+    return int(high) if low == "none" else None
+
+
 def rows_of(report):
     """The rows of a table of outputs: the name, its figures, and the bound by edges as a text."""
     form = r"(?m)^each (.*) (?:exact (\d+)|between (\d+) (\d+)) edges (\d+|none)$"
@@ -63,19 +69,38 @@ def accepted_time(report):
 
 # What the lines of a report are by their keys: one number, a claim, several numbers, or a row of
 # fields of which those at these places are numbers. Those of LISTED come several times; all others are texts.
-NUMBER = "time a t m e n exact nodes flips inputs outputs gates defaulted depth".split()
+NUMBER = "time a t m e n earliest exact nodes flips inputs outputs gates defaulted depth".split()
 CLAIMS = "accepted unchecked".split()
 NUMBERS = "between delay at".split()
 ROWS = {"last": {1}, "change": {0, 5}, "input": {0}, "output": {0}, "refused": {0, 3}}
-LISTED = "last change input output each".split()
+ROWS["hazard"] = set()
+ROWS["required"] = {0}
+LISTED = "last change input output each hazard".split()
 # The fields of a line `each` that say what the next ones are; all but these and the name are
 # numbers.
 FIGURES = "exact between edges".split()
+# Those of its columns of changes.
+CHANGES = "rise fall glitch".split()
 
 
 def number_in(word):
     """A number, None for a word in its place."""
     return int(word) if word.isdigit() else None
+
+
+def column_in(word):
+    """The value in JSON of a column of changes."""
+    if ".." in word:
+        return [number_in(moment) for moment in word.split("..")]
+    return word if word == "none" else number_in(word)
+
+
+def each_in(name, found, *rest):
+    """The value of a row of outputs in JSON."""
+    place = rest.index("rise") if "rise" in rest else len(rest)
+    figures = [word if word in FIGURES else number_in(word) for word in rest[:place]]
+    columns = [word if word in CHANGES else column_in(word) for word in rest[place:]]
+    return [name, found, *figures, *columns]
 
 
 def value_in(key, text):
@@ -95,8 +120,7 @@ def value_in(key, text):
     if key == "output" and not text[:1].isdigit():
         return text  # a name alone: the output that changes last
     if key == "each":
-        name, found, *rest = fields
-        return [name, found, *(word if word in FIGURES else number_in(word) for word in rest)]
+        return each_in(*fields)
     if key in ROWS:
         return [
             number_in(word) if place in ROWS[key] else word for place, word in enumerate(fields)

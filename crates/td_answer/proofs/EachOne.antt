@@ -24,7 +24,9 @@ use Rattle.td_question.specs.Asking.{IsAsked}
 use Rattle.td_answer.specs.declared.refusal.Refusal.{Refusal}
 use Rattle.td_answer.specs.declared.refusal.Refusal.TheVariants as refusal
 use Rattle.td_answer.specs.Searches.{IsRefusedSearch}
-use Rattle.td_answer.specs.Tables.{found_of, kept_found, IsTrueFound, IsUnanswered}
+use Rattle.td_answer.specs.Columns.{IsTrueAnswer}
+use Rattle.td_answer.specs.Findings.{found_of, kept_found, IsTrueFound}
+use Rattle.td_answer.specs.Tables.{IsUnanswered}
 
 -- where there is no condition, the pairs that are asked about are the admitted ones
 about : (problem : Problem) (pair : Pair) → IsAdmitted problem.admit pair → IsAskedAbout problem.setting.netlist (all_admitted problem.admit) pair
@@ -44,10 +46,18 @@ true_found problem budget (answer.Between low high pair nodes short) is = record
 -- what an answer says of the pairs that keep conditions
 pub true_kept : (setting : Setting) (asking : Asking) (found : KeptAnswer) → IsKeptAnswer setting asking found → IsTrueFound setting asking (kept_found found)
 true_kept setting asking (kept.Exact best tree) is = ((best.pair, is.0.timed.asked, is.0.timed.delay), is.0.greatest)
-true_kept setting asking (kept.Between best high why) is =
-    record { pair = best.pair; has = record { asked = is.timed.asked; delays = is.timed.delay }; greatest = is.greatest; ordered = is.ordered }
+true_kept setting asking (kept.Between best high why steps) is =
+    record { pair = best.pair; has = record { asked = is.0.timed.asked; delays = is.0.timed.delay }; greatest = is.0.greatest; ordered = is.0.ordered }
 true_kept setting asking (kept.Open high why) is = is
 true_kept setting asking (kept.NoPair tree) is = is.0
+
+-- the same, of an answer that is true of its pairs
+pub true_where : (setting : Setting) (asking : Asking) (found : KeptAnswer) → IsTrueAnswer setting asking found → IsTrueFound setting asking (kept_found found)
+true_where setting asking (kept.Exact best tree) is = ((best.pair, is.timed.asked, is.timed.delay), is.greatest)
+true_where setting asking (kept.Between best high why steps) is =
+    record { pair = best.pair; has = record { asked = is.timed.asked; delays = is.timed.delay }; greatest = is.greatest; ordered = is.ordered }
+true_where setting asking (kept.Open high why) is = is
+true_where setting asking (kept.NoPair tree) is = is
 
 pub unanswered : (search : Search) (problem : Problem) (is_timed : Bool) (reason : WorstFault) → is_timed ≡ is_some search.effort.seconds
     → IsWorstFault is_timed problem reason → IsUnanswered search problem.admit (refusal.Search reason)

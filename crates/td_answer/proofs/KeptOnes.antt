@@ -1,6 +1,6 @@
 -- From the answer of a search for the pairs that keep conditions to the sentences.
 use Rattle.std.proofs.Common.{◌≡◌, ◌∙◌, ℕ, ◌≤◌, ◌+◌, List, [], ◌∷◌, ◌++◌, length, refl, sym, ap, subst, arith, Bool, true, false, append_assoc, inl, inr}
-use Rattle.std.specs.Prelude.{Option, Some, None, min, is_some, option_map}
+use Rattle.std.specs.Prelude.{Option, Some, None, IfSome, min, is_some, option_map}
 use Rattle.std.specs.List.{Contains}
 use Rattle.td_reading.specs.declared.reading.Reading.{Reading}
 use Rattle.td_source.specs.Reads.{AreOutputsOf}
@@ -17,7 +17,7 @@ use Rattle.td_certificate.specs.Spelling.{AreConditions, AreTerms, HasSpelling}
 use Rattle.td_search.specs.declared.answers.Cause.{Cause as SearchCause}
 use Rattle.td_search.specs.Problems.{has_delay, problem_by}
 use Rattle.td_search.specs.declared.strategy.Strategy.TheVariants.{Lead}
-use Rattle.td_worst.specs.Kept.{certificate_with, claim_of, IsCertifiedAmong as IsCertifiedWith, IsWorstAmong, LiesBetweenAmong}
+use Rattle.td_worst.specs.Kept.{certificate_with, claim_of, claim_to, IsCertifiedAmong as IsCertifiedWith, IsWorstAmong, LiesBetweenAmong}
 use Rattle.td_request.specs.declared.request.Search.{Search}
 use Rattle.td_question.specs.Asking.{IsAskedKeeping}
 use Rattle.td_question.proofs.Questions.{asked_flips}
@@ -29,12 +29,15 @@ use Rattle.td_answer.specs.declared.outcome.Waves.{Waves}
 use Rattle.td_answer.specs.declared.status.Status.{Status}
 use Rattle.td_answer.specs.declared.status.Status.TheVariants as status
 use Rattle.td_answer.specs.Heads.{head_lines}
-use Rattle.td_answer.specs.Lines.{exact_lines, between_lines, cause_line}
+use Rattle.td_answer.specs.Lines.{exact_lines, between_lines, at_most_lines}
 use Rattle.td_answer.specs.Runs.{TellsPair}
 use Rattle.td_answer.specs.Additions.{AddsLines}
-use Rattle.td_answer.specs.Kept.{HasFigureAmong, DumpsPair, IsTrueKept, IsShownAmong, IsCertifiedAmong}
+use Rattle.td_answer.specs.Kept.{HasDelayAmong, HasFigureAmong, DumpsPair, IsTrueKept, IsShownAmong, TellsClaim, IsCertifiedAmong}
 use Rattle.td_answer.specs.KeptTerms.{kept_terms}
-use Rattle.td_answer.proofs.Searched.{cause_of, cause_is, delay_fits}
+use Rattle.td_answer.specs.OpenCertificates.{IsWantedCertificate}
+use Rattle.td_answer.specs.Requirements.{required_lines, ending_by}
+use Rattle.td_answer.proofs.Standing.{tells, tells_bound, cause_of, cause_is}
+use Rattle.td_answer.proofs.Searched.{delay_fits}
 
 -- the pair has a bit in each vector for each input
 pub best_fits : (circuit : Numbered) (asking : Asking) (best : Timed) → IsTimedAmong (setting circuit) asking best
@@ -48,6 +51,10 @@ module _ (circuit : Numbered) (admit : Admitted) (told : Told) (search : Search)
 
   abbrev Figure : List Line → Option Waves → Status → Type 0
   Figure lines dump ending = HasFigureAmong (setting circuit) asking search lines dump ending
+
+  -- a bound stays one where it is greater
+  more_bound : (one other : ℕ) → one ≤ other → IsBoundAmong (setting circuit) asking one → IsBoundAmong (setting circuit) asking other
+  more_bound one other le is = λ pair delay among has. (let low = is pair delay among has in omega (arith, le))
 
   -- ---- what the report says
 
@@ -63,67 +70,80 @@ module _ (circuit : Numbered) (admit : Admitted) (told : Told) (search : Search)
   }
 
   pub exact_says : (best : Timed) (tree : List Node) → IsWorstAmong (setting circuit) asking best
-      → AddsLines (TellsPair search.shown (setting circuit) best.pair) (head_lines circuit.netlist ++ exact_lines best.time best.pair (length tree)) outcome.report
-      → outcome.status ≡ status.Done → DumpsPair search (setting circuit) best.pair outcome.dump → IsTrueKept text reading search outcome
+      → AddsLines (TellsPair search.shown (setting circuit) best.pair) (head_lines circuit.netlist ++ exact_lines search.required best.time best.pair (length tree)) outcome.report
+      → outcome.status ≡ ending_by search.required status.Done best.time best.time → DumpsPair search (setting circuit) best.pair outcome.dump
+      → IsTrueKept text reading search outcome
   exact_says best tree worst adds ends dumped =
-      says (exact_lines best.time best.pair (length tree) ++ adds.0) status.Done
-      (adds.1 ∙ append_assoc (head_lines circuit.netlist) (exact_lines best.time best.pair (length tree)) adds.0) ends (
+      says (exact_lines search.required best.time best.pair (length tree) ++ adds.0) (ending_by search.required status.Done best.time best.time)
+      (adds.1 ∙ append_assoc (head_lines circuit.netlist) (exact_lines search.required best.time best.pair (length tree)) adds.0) ends
+      (inl (
         best.pair,
         record {
           time = best.time;
           nodes = length tree;
+          required = required_lines search.required best.time best.time;
           more = adds.0;
           printed = refl;
           has = record { asked = worst.timed.asked; delays = worst.timed.delay };
           greatest = worst.greatest;
+          stands = tells (IsBoundAmong (setting circuit) asking) (HasDelayAmong (setting circuit) asking best.pair) more_bound status.Done search.required best.time best.time
+              worst.greatest (record { asked = worst.timed.asked; delays = worst.timed.delay });
           tells = adds.2;
         },
         dumped,
-      )
+      ))
 
   pub between_says : (best : Timed) (high : ℕ) (why : SearchCause) → LiesBetweenAmong (setting circuit) asking best high
-      → AddsLines (TellsPair search.shown (setting circuit) best.pair) (head_lines circuit.netlist ++ between_lines best.time high why best.pair 0) outcome.report
-      → outcome.status ≡ status.Between → DumpsPair search (setting circuit) best.pair outcome.dump → IsTrueKept text reading search outcome
+      → AddsLines (TellsPair search.shown (setting circuit) best.pair) (head_lines circuit.netlist ++ between_lines search.required best.time high why best.pair 0) outcome.report
+      → outcome.status ≡ ending_by search.required status.Between best.time high → DumpsPair search (setting circuit) best.pair outcome.dump
+      → IsTrueKept text reading search outcome
   between_says best high why lies adds ends dumped =
-      says (between_lines best.time high why best.pair 0 ++ adds.0) status.Between
-      (adds.1 ∙ append_assoc (head_lines circuit.netlist) (between_lines best.time high why best.pair 0) adds.0) ends
-      (inl (
+      says (between_lines search.required best.time high why best.pair 0 ++ adds.0) (ending_by search.required status.Between best.time high)
+      (adds.1 ∙ append_assoc (head_lines circuit.netlist) (between_lines search.required best.time high why best.pair 0) adds.0) ends
+      (inr (inl (
         best.pair,
         record {
           low = best.time;
           high = high;
-          cause = cause_of why;
+          cause = cause_of search.required best.time high why;
           nodes = 0;
+          required = required_lines search.required best.time high;
           more = adds.0;
-          printed = ap (λ (c : Line). line.Between best.time high ∷ c ∷ line.From best.pair.first ∷ line.To best.pair.second ∷ line.Nodes 0 ∷ adds.0) (cause_is why);
+          printed = ap (λ (c : Line). line.Between best.time high ∷ c ∷ line.From best.pair.first ∷ line.To best.pair.second ∷ line.Nodes 0
+              ∷ (required_lines search.required best.time high ++ adds.0)) (cause_is search.required best.time high why);
           has = record { asked = lies.timed.asked; delays = lies.timed.delay };
           greatest = lies.greatest;
           ordered = lies.ordered;
+          stands = tells (IsBoundAmong (setting circuit) asking) (HasDelayAmong (setting circuit) asking best.pair) more_bound status.Between search.required best.time high
+              lies.greatest (record { asked = lies.timed.asked; delays = lies.timed.delay });
           tells = adds.2;
         },
         dumped,
-      ))
+      )))
 
   pub at_most_says : (high : ℕ) (why : SearchCause) → IsBoundAmong (setting circuit) asking high
-      → outcome.report ≡ head_lines circuit.netlist ++ line.AtMost high ∷ cause_line why ∷ [] → outcome.status ≡ status.Between → outcome.dump ≡ None
-      → IsTrueKept text reading search outcome
+      → outcome.report ≡ head_lines circuit.netlist ++ at_most_lines search.required high why → outcome.status ≡ ending_by search.required status.Between 0 high
+      → outcome.dump ≡ None → IsTrueKept text reading search outcome
   at_most_says high why bound printed ends none =
-      says (line.AtMost high ∷ cause_line why ∷ []) status.Between printed ends
-      (inr (
+      says (at_most_lines search.required high why) (ending_by search.required status.Between 0 high) printed ends
+      (inr (inr (inl (
         record {
           high = high;
-          cause = cause_of why;
-          printed = ap (λ (c : Line). line.AtMost high ∷ c ∷ []) (cause_is why);
+          cause = cause_of search.required 0 high why;
+          required = required_lines search.required 0 high;
+          printed = ap (λ (c : Line). line.AtMost high ∷ c ∷ required_lines search.required 0 high) (cause_is search.required 0 high why);
           greatest = bound;
+          stands = tells_bound (IsBoundAmong (setting circuit) asking) more_bound status.Between search.required high bound;
         },
         none,
-      ))
+      ))))
 
   pub none_says : (tree : List Node) → AsksNone (setting circuit) asking
       → outcome.report ≡ head_lines circuit.netlist ++ line.NoPair ∷ line.Nodes (length tree) ∷ [] → outcome.status ≡ status.Refused → outcome.dump ≡ None
       → IsTrueKept text reading search outcome
   none_says tree asks_none printed ends none =
-      says (line.NoPair ∷ line.Nodes (length tree) ∷ []) status.Refused printed ends (record { nodes = length tree; printed = refl; none = asks_none }, none)
+      says (line.NoPair ∷ line.Nodes (length tree) ∷ []) status.Refused printed ends
+      (inr (inr (inr (record { nodes = length tree; printed = refl; none = asks_none }, none, refl))))
 
   -- ---- the certificate
 
@@ -146,45 +166,49 @@ module _ (circuit : Numbered) (admit : Admitted) (told : Told) (search : Search)
     }
 
     -- a certificate with what it shows, where the outcome has it
-    kept : (claim : Option Claim) (tree : List Node) (ending : Status) → outcome.certificate ≡ Some (certificate claim tree) → outcome.status ≡ ending
-        → IsCertifiedAmong text reading search.question outcome.report (Some (certificate claim tree)) ending
-        → IsCertifiedAmong text reading search.question outcome.report outcome.certificate outcome.status
-    kept claim tree ending has ends is =
-        subst (λ (e : Status). IsCertifiedAmong text reading search.question outcome.report outcome.certificate e) (sym ends)
-        (subst (λ (c : Option Certificate). IsCertifiedAmong text reading search.question outcome.report c ending) (sym has) is)
+    kept : (claim : Option Claim) (tree : List Node) → outcome.certificate ≡ Some (certificate claim tree) → IsCertifiedWith (setting circuit) asking claim tree
+        → TellsClaim search outcome.report claim → IsCertifiedAmong text reading search outcome.report outcome.certificate
+    kept claim tree has is tells_claim =
+        subst (λ (c : Option Certificate). IsCertifiedAmong text reading search outcome.report c) (sym has) (shown claim tree is, tells_claim)
 
     pub exact_kept : (best : Timed) (tree : List Node) → IsCertifiedWith (setting circuit) asking (Some (claim_of best)) tree
-        → AddsLines (TellsPair search.shown (setting circuit) best.pair) (head_lines circuit.netlist ++ exact_lines best.time best.pair (length tree)) outcome.report
-        → outcome.certificate ≡ Some (certificate (Some (claim_of best)) tree) → outcome.status ≡ status.Done
-        → IsCertifiedAmong text reading search.question outcome.report outcome.certificate outcome.status
-    exact_kept best tree is adds has ends =
-        kept (Some (claim_of best)) tree status.Done has ends (
-          shown (Some (claim_of best)) tree is,
-          record {
-            claim = claim_of best;
-            claims = refl;
-            tells = subst (λ (lines : List Line). Contains lines (line.Exact best.time)) (sym adds.1) (2, omega arith, refl);
-            closed = refl;
-          },
-        )
+        → AddsLines (TellsPair search.shown (setting circuit) best.pair) (head_lines circuit.netlist ++ exact_lines search.required best.time best.pair (length tree)) outcome.report
+        → outcome.certificate ≡ Some (certificate (Some (claim_of best)) tree)
+        → IsCertifiedAmong text reading search outcome.report outcome.certificate
+    exact_kept best tree is adds has =
+        kept (Some (claim_of best)) tree has is
+        (inl (refl, subst (λ (lines : List Line). Contains lines (line.Exact best.time)) (sym adds.1) (2, omega arith, refl)))
 
     pub none_kept : (tree : List Node) → IsCertifiedWith (setting circuit) asking None tree
         → outcome.report ≡ head_lines circuit.netlist ++ line.NoPair ∷ line.Nodes (length tree) ∷ []
-        → outcome.certificate ≡ Some (certificate None tree) → outcome.status ≡ status.Refused
-        → IsCertifiedAmong text reading search.question outcome.report outcome.certificate outcome.status
-    none_kept tree is printed has ends =
-        kept None tree status.Refused has ends (
-          shown None tree is,
-          refl,
-          subst (λ (lines : List Line). Contains lines line.NoPair) (sym printed) (2, omega arith, refl),
-        )
+        → outcome.certificate ≡ Some (certificate None tree)
+        → IsCertifiedAmong text reading search outcome.report outcome.certificate
+    none_kept tree is printed has =
+        kept None tree has is (subst (λ (lines : List Line). Contains lines line.NoPair) (sym printed) (2, omega arith, refl))
+
+  -- of an open answer, where it has one
+  pub between_kept : AreOutputsOf text reading (option_map (λ numbers. numbers.items) told.outputs) → told.default ≡ reading.default
+      → (best : Timed) (high : ℕ) (why : SearchCause) → IfSome outcome.certificate (IsWantedCertificate search (setting circuit) admit told best high)
+      → AddsLines (TellsPair search.shown (setting circuit) best.pair) (head_lines circuit.netlist ++ between_lines search.required best.time high why best.pair 0) outcome.report
+      → IsCertifiedAmong text reading search outcome.report outcome.certificate
+  between_kept are_outputs same best high why is adds = go outcome.certificate is
+    where
+      printed : Contains outcome.report (line.Between best.time high)
+      printed = subst (λ (lines : List Line). Contains lines (line.Between best.time high)) (sym adds.1) (2, omega arith, refl)
+
+      go : (found : Option Certificate) → IfSome found (IsWantedCertificate search (setting circuit) admit told best high)
+          → IsCertifiedAmong text reading search outcome.report found
+      go None has = inl (best.time, high, printed)
+      go (Some found) has =
+          subst (λ (c : Certificate). IsCertifiedAmong text reading search outcome.report (Some c)) (sym has.is.is)
+          (shown are_outputs same has.is.spelled has.is.few (Some (claim_to best high)) has.is.tree has.is.certified, inr (has.wanted, printed))
 
   -- no certificate
-  pub open_kept : outcome.certificate ≡ None → outcome.status ≡ status.Between
-      → IsCertifiedAmong text reading search.question outcome.report outcome.certificate outcome.status
-  open_kept none ends =
-      subst (λ (e : Status). IsCertifiedAmong text reading search.question outcome.report outcome.certificate e) (sym ends)
-      (subst (λ (c : Option Certificate). IsCertifiedAmong text reading search.question outcome.report c status.Between) (sym none) refl)
+  pub open_kept : (high : ℕ) (why : SearchCause) → outcome.certificate ≡ None → outcome.report ≡ head_lines circuit.netlist ++ at_most_lines search.required high why
+      → IsCertifiedAmong text reading search outcome.report outcome.certificate
+  open_kept high why none printed =
+      subst (λ (c : Option Certificate). IsCertifiedAmong text reading search outcome.report c) (sym none)
+      (inr (high, subst (λ (lines : List Line). Contains lines (line.AtMost high)) (sym printed) (2, omega arith, refl)))
 
 -- ---- what can be written
 
@@ -193,3 +217,9 @@ pub certificate_written : (circuit : Numbered) (admit : Admitted) (told : Told) 
     → (AreConditions told.keep.items → AreTerms (Some (kept_terms told))) → (length told.keep.items ≤ 5000 → HaveFew (Some (kept_terms told)))
     → HasSpelling (certificate_with (setting circuit) admit (kept_terms told) claim tree)
 certificate_written circuit admit told claim tree is terms few = (is.written (kept_terms told) refl (terms is.told) (few is.few)).0
+
+pub open_written : (circuit : Numbered) (admit : Admitted) (told : Told) (search : Search) (best : Timed) (high : ℕ) (certificate : Option Certificate)
+    → IfSome certificate (IsWantedCertificate search (setting circuit) admit told best high) → IfSome certificate HasSpelling
+open_written circuit admit told search best high None is = tt
+open_written circuit admit told search best high (Some certificate) is =
+    subst HasSpelling (sym is.is.is) (certificate_written circuit admit told (Some (claim_to best high)) is.is.tree is.is.certified is.is.spelled is.is.few)

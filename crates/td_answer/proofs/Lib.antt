@@ -3,12 +3,16 @@ pub mod OutputNets
 pub mod Adding
 pub mod Ways
 pub mod LatestBound
+pub mod FirstChanges
 pub mod Judged
+pub mod Standing
+pub mod Unkept
 pub mod Searched
 pub mod KeptOnes
 pub mod Chosen
 pub mod Listing
 pub mod Zips
+pub mod Filling
 pub mod Whole
 pub mod Cuts
 pub mod Keeping
@@ -16,3 +20,6 @@ pub mod Writable
 pub mod Gathered
 pub mod Reporting
 pub mod EachOne
+pub mod OutputNumbers
+pub mod Conditioned
+pub mod Hazardous

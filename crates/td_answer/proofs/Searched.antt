@@ -1,7 +1,7 @@
 -- From the answer of a search to the sentences.
-use Rattle.std.proofs.Common.{◌≡◌, ◌∙◌, ℕ, suc, List, [], ◌∷◌, ◌++◌, length, refl, sym, ap, subst, arith, Bool, true, false, append_assoc}
+use Rattle.std.proofs.Common.{◌≡◌, ◌∙◌, ℕ, ◌≤◌, suc, List, [], ◌∷◌, ◌++◌, length, refl, sym, ap, subst, arith, Bool, true, false, append_assoc, inl, inr}
 use Rattle.std.proofs.lemmas.List.{length-map}
-use Rattle.std.specs.Prelude.{Option, Some, None, min, is_some, if◌then◌else◌}
+use Rattle.std.specs.Prelude.{Option, Some, None, min, is_some, IfSome, if◌then◌else◌}
 use Rattle.std.specs.List.{Contains}
 use Rattle.td_gates.specs.declared.primitives.Level.{Level}
 use Rattle.td_gates.specs.Table.{level_from}
@@ -13,20 +13,25 @@ use Rattle.td_domain.specs.declared.cubes.Trit.{Trit}
 use Rattle.td_domain.specs.Pairs.{Pair}
 use Rattle.td_domain.specs.Cubes.{AllowsBits}
 use Rattle.td_domain.specs.Admits.{Admitted}
+use Rattle.td_domain.specs.Worst.{IsUpperBound}
+use Rattle.td_refutation.specs.declared.conditions.NamedCondition.{NamedCondition}
 use Rattle.td_certificate.specs.declared.certificate.Certificate.{Certificate}
 use Rattle.td_certificate.specs.declared.tree.Node.{Node}
 use Rattle.td_certificate.specs.Questions.{keep_by}
+use Rattle.td_certificate.specs.Reading.{with_keep}
 use Rattle.td_checker.specs.Checks.{told_terms}
 use Rattle.td_search.specs.declared.strategy.Strategy.{Strategy}
 use Rattle.td_search.specs.declared.answers.Answer.{Answer}
 use Rattle.td_search.specs.declared.answers.Answer.TheVariants as answer
 use Rattle.td_search.specs.declared.answers.SearchFault.TheVariants as search
 use Rattle.td_search.specs.Problems.{Problem, problem_by, has_delay}
+use Rattle.td_search.specs.Answers.{low_of}
 use Rattle.td_search.specs.Written.{CanBeWritten}
 use Rattle.td_worst.specs.declared.method.Method.{Method}
 use Rattle.td_worst.specs.declared.fault.WorstFault.{WorstFault}
 use Rattle.td_worst.specs.declared.fault.WorstFault.TheVariants as fault
-use Rattle.td_worst.specs.Methods.{IsAnswerBy, IsSoundAnswer}
+use Rattle.td_worst.specs.Kept.{claim_to}
+use Rattle.td_worst.specs.Methods.{IsAnswerBy, IsSoundAnswer, high_of}
 use Rattle.td_worst.specs.Faults.{IsWorstFault}
 use Rattle.td_worst.proofs.Outcomes.{outcome_by}
 use Rattle.td_request.specs.declared.request.Search.{Search}
@@ -34,23 +39,25 @@ use Rattle.td_question.specs.Asking.{IsAsked}
 use Rattle.td_question.proofs.Questions.{asked_flips}
 use Rattle.td_lines.specs.declared.line.Line.{Line}
 use Rattle.td_lines.specs.declared.line.Line.TheVariants as line
-use Rattle.td_lines.specs.declared.line.Cause.{Cause}
-use Rattle.td_lines.specs.declared.line.Cause.TheVariants as why
-use Rattle.td_search.specs.declared.answers.Cause.{Cause as SearchCause}
-use Rattle.td_search.specs.declared.answers.Cause.TheVariants as cause
 use Rattle.td_answer.specs.declared.outcome.Outcome.{Outcome}
 use Rattle.td_answer.specs.declared.refusal.Refusal.TheVariants as refusal
 use Rattle.td_answer.specs.declared.status.Status.{Status}
+use Rattle.td_answer.specs.declared.status.Status.TheVariants.{Done, Between}
 use Rattle.td_answer.specs.declared.certifying.Read.{Read}
+use Rattle.td_answer.specs.declared.kept_certificate.Told.{Told}
 use Rattle.td_answer.specs.Heads.{head_lines}
-use Rattle.td_answer.specs.Lines.{answer_lines, ending_of, pair_in, cause_line}
+use Rattle.td_answer.specs.Lines.{answer_lines, ending_of, pair_in}
 use Rattle.td_answer.specs.Runs.{TellsPair, RunsPair}
 use Rattle.td_answer.specs.Dumps.{IsDumpWhere}
 use Rattle.td_answer.specs.Additions.{AddsLines}
-use Rattle.td_answer.specs.Certificates.{outputs_in, terms_in, tells_terms, certificate_in, CanBeTold}
-use Rattle.td_answer.specs.Certified.{AreTermsOf, IsCertified}
+use Rattle.td_answer.specs.Certificates.{outputs_in, terms_in, tells_terms}
+use Rattle.td_answer.specs.Certified.{AreTermsOf, IsShown, IsCertified}
+use Rattle.td_answer.specs.KeptTerms.{kept_terms}
+use Rattle.td_answer.specs.OpenCertificates.{IsCertificateOf, IsWantedCertificate, read_of}
+use Rattle.td_answer.specs.Requirements.{required_lines}
 use Rattle.td_answer.specs.Searches.{IsRefusedSearch}
-use Rattle.td_answer.specs.Sentences.{HasFigure, IsTrueWorst}
+use Rattle.td_answer.specs.Sentences.{HasDelay, HasFigure, IsTrueWorst}
+use Rattle.td_answer.proofs.Standing.{tells, cause_of, cause_is}
 
 -- ---- the pair of an answer
 
@@ -80,17 +87,11 @@ pub pair_fits : (method : Method) (asked : Problem) (budget : ℕ) (found : Answ
     → (length (pair_in found).first ≡ length asked.setting.netlist.inputs) × (length (pair_in found).second ≡ length asked.setting.netlist.inputs)
 pair_fits method asked budget found is = answer_fits asked budget found (outcome_by method asked budget found is)
 
--- ---- causes
-
-abbrev pub cause_of : SearchCause → Cause
-cause_of cause.Budget = why.Budget
-cause_of cause.Memory = why.Memory
-cause_of cause.Time = why.Time
-
-pub cause_is : (found : SearchCause) → cause_line found ≡ line.Cause (cause_of found)
-cause_is cause.Budget = refl
-cause_is cause.Memory = refl
-cause_is cause.Time = refl
+-- its pair has the lower figure, which isn't above the upper one
+pub figures_of : (asked : Problem) (budget : ℕ) (found : Answer) → IsSoundAnswer asked budget found
+    → has_delay asked (pair_in found) (low_of found) × (low_of found ≤ high_of found)
+figures_of asked budget (answer.Exact time pair tree) is = (is.reached, omega arith)
+figures_of asked budget (answer.Between low high pair nodes why) is = (is.reached, is.ordered)
 
 -- ---- terms
 
@@ -118,34 +119,44 @@ module _ (text : List ℕ) (reading : Reading) (asked_by : Search) (circuit : Nu
 
   -- ---- the figure
 
+  more_bound : (one other : ℕ) → one ≤ other → IsUpperBound (setting circuit) admit one → IsUpperBound (setting circuit) admit other
+  more_bound one other le is = λ pair delay admitted has. (let low = is pair delay admitted has in omega (arith, le))
+
   figure : (budget : ℕ) (found : Answer) (more : List Line) → IsSoundAnswer problem budget found → TellsPair asked_by.shown (setting circuit) (pair_in found) more
-      → HasFigure (setting circuit) admit asked_by.shown (pair_in found) (answer_lines found ++ more) (ending_of found)
-  figure budget (answer.Exact time pair nodes) more is tells = record {
+      → HasFigure (setting circuit) admit asked_by (pair_in found) (answer_lines asked_by.required found ++ more) (ending_of asked_by.required found)
+  figure budget (answer.Exact time pair nodes) more is tells_more = inl (record {
     time = time;
     nodes = length nodes;
+    required = required_lines asked_by.required time time;
     more = more;
     printed = refl;
     worst = record { pair = pair; admitted = is.reached.0; reached = is.reached.1; greatest = is.greatest };
     has = record { admitted = is.reached.0; delays = is.reached.1 };
-    tells = tells;
-  }
-  figure budget (answer.Between low high pair nodes short) more is tells = record {
+    stands = tells (IsUpperBound (setting circuit) admit) (HasDelay (setting circuit) admit pair) more_bound Done asked_by.required time time
+        is.greatest (record { admitted = is.reached.0; delays = is.reached.1 });
+    tells = tells_more;
+  })
+  figure budget (answer.Between low high pair nodes short) more is tells_more = inr (record {
     low = low;
     high = high;
-    cause = cause_of short;
+    cause = cause_of asked_by.required low high short;
     nodes = nodes;
+    required = required_lines asked_by.required low high;
     more = more;
-    printed = ap (λ (c : Line). line.Between low high ∷ c ∷ line.From pair.first ∷ line.To pair.second ∷ line.Nodes nodes ∷ more) (cause_is short);
+    printed = ap (λ (c : Line). line.Between low high ∷ c ∷ line.From pair.first ∷ line.To pair.second ∷ line.Nodes nodes ∷ (required_lines asked_by.required low high ++ more))
+        (cause_is asked_by.required low high short);
     has = record { admitted = is.reached.0; delays = is.reached.1 };
     greatest = is.greatest;
     ordered = is.ordered;
-    tells = tells;
-  }
+    stands = tells (IsUpperBound (setting circuit) admit) (HasDelay (setting circuit) admit pair) more_bound Between asked_by.required low high
+        is.greatest (record { admitted = is.reached.0; delays = is.reached.1 });
+    tells = tells_more;
+  })
 
   -- what a search says is true
   pub says : (budget : ℕ) (found : Answer) (outcome : Outcome) → IsSoundAnswer problem budget found
-      → AddsLines (TellsPair asked_by.shown (setting circuit) (pair_in found)) (head_lines circuit.netlist ++ answer_lines found) outcome.report
-      → outcome.status ≡ ending_of found
+      → AddsLines (TellsPair asked_by.shown (setting circuit) (pair_in found)) (head_lines circuit.netlist ++ answer_lines asked_by.required found) outcome.report
+      → outcome.status ≡ ending_of asked_by.required found
       → IsDumpWhere (is_some asked_by.dump) (setting circuit) (RunsPair (setting circuit) (pair_in found)) outcome.dump
       → IsTrueWorst text reading asked_by outcome
   says budget found outcome is adds ends dumped = record {
@@ -153,9 +164,9 @@ module _ (text : List ℕ) (reading : Reading) (asked_by : Search) (circuit : Nu
     admit = admit;
     asked = asked;
     pair = pair_in found;
-    lines = answer_lines found ++ adds.0;
-    is = adds.1 ∙ append_assoc (head_lines circuit.netlist) (answer_lines found) adds.0;
-    figure = subst (λ (status : Status). HasFigure (setting circuit) admit asked_by.shown (pair_in found) (answer_lines found ++ adds.0) status) (sym ends)
+    lines = answer_lines asked_by.required found ++ adds.0;
+    is = adds.1 ∙ append_assoc (head_lines circuit.netlist) (answer_lines asked_by.required found) adds.0;
+    figure = subst (λ (status : Status). HasFigure (setting circuit) admit asked_by (pair_in found) (answer_lines asked_by.required found ++ adds.0) status) (sym ends)
         (figure budget found adds.0 is adds.2);
     dumped = dumped;
   }
@@ -166,35 +177,66 @@ module _ (text : List ℕ) (reading : Reading) (asked_by : Search) (circuit : Nu
   same_admit =
       ap (λ (flips : ℕ). record admit { flips = flips }) (omega (arith, asked_flips text reading asked_by.question (setting circuit) admit asked))
 
-  shown_by : (budget : ℕ) (read : Read) (found : Answer) (report : List Line) (more : List Line) → read.default ≡ reading.default
-      → AreOutputsOf text reading (outputs_in read) → IsSoundAnswer problem budget found → CanBeWritten problem found → CanBeTold read by found
-      → report ≡ (head_lines circuit.netlist ++ answer_lines found) ++ more
-      → IsCertified text reading asked_by.question report (certificate_in read problem found) (ending_of found)
-  shown_by budget read (answer.Exact time pair tree) report more same is_output is written can printed = record {
-    netlist = circuit.netlist;
-    asked = subst (λ (a : Admitted). IsAsked text reading asked_by.question (setting circuit) a) (sym same_admit) asked;
-    terms = terms_read text reading by read tree same is_output;
-    claim = record { time = time; high = time; pair = pair };
-    claims = refl;
-    tells = subst (λ (lines : List Line). Contains lines (line.Exact time)) (sym printed) (2, omega arith, refl);
-    closed = refl;
-    accepted = is.accepted (terms_in by read tree) (no_condition by read tree);
-    written = (written (terms_in by read tree) can).0;
-  }
-  shown_by budget read (answer.Between low high pair nodes short) report more same is_output is written can printed = refl
+  asked_so : IsAsked text reading asked_by.question (setting circuit) (record admit { flips = min admit.flips (length admit.held) })
+  asked_so = subst (λ (a : Admitted). IsAsked text reading asked_by.question (setting circuit) a) (sym same_admit) asked
 
-  -- what a search keeps is a certificate of its answer
-  pub certified : (budget : ℕ) (read : Read) (found : Answer) (outcome : Outcome) → read.default ≡ reading.default
-      → AreOutputsOf text reading (outputs_in read) → IsSoundAnswer problem budget found → CanBeWritten problem found → CanBeTold read by found
-      → AddsLines (TellsPair asked_by.shown (setting circuit) (pair_in found)) (head_lines circuit.netlist ++ answer_lines found) outcome.report
-      → outcome.status ≡ ending_of found → outcome.certificate ≡ certificate_in read problem found
-      → IsCertified text reading asked_by.question outcome.report outcome.certificate outcome.status
-  certified budget read found outcome same is_output is written can adds ends kept =
-      subst (λ (status : Status). IsCertified text reading asked_by.question outcome.report outcome.certificate status) (sym ends)
-      (subst (λ (certificate : Option Certificate). IsCertified text reading asked_by.question outcome.report certificate (ending_of found)) (sym kept)
-      (shown_by budget read found outcome.report adds.0 same is_output is written can adds.1))
+  module _ (told : Told) (same : told.default ≡ reading.default) (bare : told.keep.items ≡ []) (is_output : AreOutputsOf text reading (outputs_in (read_of told))) where
+    told_are : AreTermsOf text reading (Some (kept_terms told))
+    told_are = (
+      outputs_in (read_of told),
+      is_output,
+      ap (λ (keep : List NamedCondition). with_keep keep (told_terms told.default (outputs_in (read_of told)))) bare
+          ∙ ap (λ delays. told_terms delays (outputs_in (read_of told))) same,
+    )
 
-  -- the figures of an answer are true
+    -- of an open answer
+    open_shown : (low high : ℕ) (pair : Pair) (report : List Line) (certificate : Certificate)
+        → IsWantedCertificate asked_by (setting circuit) admit told (record { pair = pair; time = low }) high certificate → Contains report (line.Between low high)
+        → IsShown text reading asked_by report certificate
+    open_shown low high pair report certificate is tells_between =
+        subst (λ (c : Certificate). IsShown text reading asked_by report c) (sym is.is.is) (record {
+          netlist = circuit.netlist;
+          asked = asked_so;
+          terms = told_are;
+          claim = claim_to (record { pair = pair; time = low }) high;
+          claims = refl;
+          tells = inr (is.wanted, tells_between);
+          accepted = is.is.certified.accepted (kept_terms told) refl;
+          written = (is.is.certified.written (kept_terms told) refl (is.is.spelled is.is.certified.told) (is.is.few is.is.certified.few)).0;
+        })
+
+    open_certified : (low high : ℕ) (pair : Pair) (report : List Line) (certificate : Option Certificate)
+        → IfSome certificate (IsWantedCertificate asked_by (setting circuit) admit told (record { pair = pair; time = low }) high) → Contains report (line.Between low high)
+        → IsCertified text reading asked_by report certificate
+    open_certified low high pair report None is tells_between = (low, high, tells_between)
+    open_certified low high pair report (Some certificate) is tells_between = open_shown low high pair report certificate is tells_between
+
+    shown_by : (budget : ℕ) (found : Answer) (report : List Line) (more : List Line) (certificate : Option Certificate)
+        → IsSoundAnswer problem budget found → CanBeWritten problem found → IsCertificateOf told problem asked_by found certificate
+        → report ≡ (head_lines circuit.netlist ++ answer_lines asked_by.required found) ++ more
+        → IsCertified text reading asked_by report certificate
+    shown_by budget (answer.Exact time pair tree) report more certificate is written kept printed =
+        subst (λ (c : Option Certificate). IsCertified text reading asked_by report c) (sym kept.0) (record {
+          netlist = circuit.netlist;
+          asked = asked_so;
+          terms = terms_read text reading by (read_of told) tree same is_output;
+          claim = record { time = time; high = time; pair = pair };
+          claims = refl;
+          tells = inl (refl, subst (λ (lines : List Line). Contains lines (line.Exact time)) (sym printed) (2, omega arith, refl));
+          accepted = is.accepted (terms_in by (read_of told) tree) (no_condition by (read_of told) tree);
+          written = (written (terms_in by (read_of told) tree) kept.1).0;
+        })
+    shown_by budget (answer.Between low high pair nodes short) report more certificate is written kept printed =
+        open_certified low high pair report certificate kept
+        (subst (λ (lines : List Line). Contains lines (line.Between low high)) (sym printed) (2, omega arith, refl))
+
+    -- what a search keeps is a certificate of its answer
+    pub certified : (budget : ℕ) (found : Answer) (outcome : Outcome) → IsSoundAnswer problem budget found → CanBeWritten problem found
+        → AddsLines (TellsPair asked_by.shown (setting circuit) (pair_in found)) (head_lines circuit.netlist ++ answer_lines asked_by.required found) outcome.report
+        → IsCertificateOf told problem asked_by found outcome.certificate
+        → IsCertified text reading asked_by outcome.report outcome.certificate
+    certified budget found outcome is written adds kept = shown_by budget found outcome.report adds.0 outcome.certificate is written kept adds.1
+
   -- ---- no answer
 
   pub refused : (is_timed : Bool) (reason : WorstFault) → is_timed ≡ is_some asked_by.effort.seconds → IsWorstFault is_timed problem reason

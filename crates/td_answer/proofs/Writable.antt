@@ -8,11 +8,9 @@ use Rattle.td_circuit.specs.Settings.{Setting}
 use Rattle.td_certificate.specs.declared.certificate.Certificate.{Certificate}
 use Rattle.td_certificate.specs.Spelling.{HasSpelling}
 use Rattle.td_lines.specs.declared.line.Line.{Line}
-use Rattle.td_request.specs.declared.question.Question.{Question}
+use Rattle.td_request.specs.declared.request.Search.{Search}
 use Rattle.td_answer.specs.declared.outcome.Outcome.{Outcome}
 use Rattle.td_answer.specs.declared.outcome.Waves.{Waves}
-use Rattle.td_answer.specs.declared.status.Status.{Status}
-use Rattle.td_answer.specs.declared.status.Status.TheVariants as status
 use Rattle.td_answer.specs.Dumps.{IsDumpWhere}
 use Rattle.td_answer.specs.Certified.{IsCertified}
 use Rattle.td_answer.specs.Writing.{HasRun, CanBeWritten}
@@ -22,15 +20,10 @@ none_spelled : (certificate : Option Certificate) → certificate ≡ None → I
 none_spelled certificate none = subst (λ (c : Option Certificate). IfSome c HasSpelling) (sym none) tt
 
 -- the certificate of a search
-certificate_spelled : (text : List ℕ) (reading : Reading) (question : Question) (report : List Line) (certificate : Option Certificate) (ending : Status)
-    → IsCertified text reading question report certificate ending → IfSome certificate HasSpelling
-certificate_spelled text reading question report None ending is = tt
-certificate_spelled text reading question report (Some certificate) status.Done is = is.written
-certificate_spelled text reading question report (Some certificate) status.Refused is = none_spelled (Some certificate) is
-certificate_spelled text reading question report (Some certificate) status.BadCommand is = none_spelled (Some certificate) is
-certificate_spelled text reading question report (Some certificate) status.Between is = none_spelled (Some certificate) is
-certificate_spelled text reading question report (Some certificate) status.Rejected is = none_spelled (Some certificate) is
-certificate_spelled text reading question report (Some certificate) status.Device is = none_spelled (Some certificate) is
+certificate_spelled : (text : List ℕ) (reading : Reading) (search : Search) (report : List Line) (certificate : Option Certificate)
+    → IsCertified text reading search report certificate → IfSome certificate HasSpelling
+certificate_spelled text reading search report None is = tt
+certificate_spelled text reading search report (Some certificate) is = is.written
 
 -- the dump that is asked for
 dump_written : (is_asked : Bool) (setting : Setting) (IsRun : (Net → Wave) → Type 0) (dump : Option Waves) → IsDumpWhere is_asked setting IsRun dump
@@ -39,11 +32,19 @@ dump_written false setting IsRun dump none = subst (λ (d : Option Waves). IfSom
 dump_written true setting IsRun None is = tt
 dump_written true setting IsRun (Some dump) is = is.has
 
-pub searched_written : (text : List ℕ) (reading : Reading) (question : Question) (is_asked : Bool) (setting : Setting) (IsRun : (Net → Wave) → Type 0) (outcome : Outcome)
-    → IsCertified text reading question outcome.report outcome.certificate outcome.status → IsDumpWhere is_asked setting IsRun outcome.dump
+pub searched_written : (text : List ℕ) (reading : Reading) (search : Search) (is_asked : Bool) (setting : Setting) (IsRun : (Net → Wave) → Type 0) (outcome : Outcome)
+    → IsCertified text reading search outcome.report outcome.certificate → IsDumpWhere is_asked setting IsRun outcome.dump
     → CanBeWritten outcome
-searched_written text reading question is_asked setting IsRun outcome certified dumped = record {
-  certificate = certificate_spelled text reading question outcome.report outcome.certificate outcome.status certified;
+searched_written text reading search is_asked setting IsRun outcome certified dumped = record {
+  certificate = certificate_spelled text reading search outcome.report outcome.certificate certified;
+  dump = dump_written is_asked setting IsRun outcome.dump dumped;
+}
+
+-- what is spelled, and the dump that is asked for
+pub spelled_and_dump : (is_asked : Bool) (setting : Setting) (IsRun : (Net → Wave) → Type 0) (outcome : Outcome)
+    → IfSome outcome.certificate HasSpelling → IsDumpWhere is_asked setting IsRun outcome.dump → CanBeWritten outcome
+spelled_and_dump is_asked setting IsRun outcome spelled dumped = record {
+  certificate = spelled;
   dump = dump_written is_asked setting IsRun outcome.dump dumped;
 }
 

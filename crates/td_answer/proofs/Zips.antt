@@ -26,6 +26,13 @@ module _ {A B : Type 0} (R : A → B → Type 0) where
       let next : i + 1 ≡ suc i = omega arith in
       subst (λ (front : List A). AllZip R front (ys ++ y ∷ [])) (sym (ap (λ (n : ℕ). take n xs) next ∙ take_push xs i x at)) (zip_push (take i xs) ys x y all r)
 
+  -- two more of each
+  pub zip_two : (xs : List A) (ys : List B) (a b : A) (x y : B) → AllZip R xs ys → R a x → R b y → AllZip R (xs ++ a ∷ b ∷ []) (ys ++ x ∷ y ∷ [])
+  zip_two [] [] a b x y all r s = (r, (s, tt))
+  zip_two [] (c ∷ ys) a b x y all r s = absurd all
+  zip_two (c ∷ xs) [] a b x y all r s = absurd all
+  zip_two (c ∷ xs) (d ∷ ys) a b x y all r s = (all.0, zip_two xs ys a b x y all.1 r s)
+
   -- all of them
   pub zip_all : (xs : List A) (ys : List B) (i : ℕ) → length xs ≤ i → AllZip R (take i xs) ys → AllZip R xs ys
   zip_all xs ys i past all = subst (λ (front : List A). AllZip R front ys) (take_all i xs past) all

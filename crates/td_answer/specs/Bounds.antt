@@ -21,6 +21,7 @@ use Rattle.td_lines.specs.declared.line.Line.{Line}
 use Rattle.td_lines.specs.declared.line.Line.TheVariants as line
 use Rattle.td_answer.specs.Heads.{head_lines}
 use Rattle.td_answer.specs.Names.{label}
+use Rattle.td_answer.specs.Starts.{TellsStart}
 use Rattle.td_answer.specs.declared.outcome.Outcome.{Outcome}
 use Rattle.td_answer.specs.declared.refusal.Refusal.{Refusal}
 use Rattle.td_answer.specs.declared.refusal.Refusal.TheVariants as refusal
@@ -77,7 +78,7 @@ TellsBound true setting cube bound lines =
     ⊎ ((output : Name) × IsLatestBound setting cube bound output × (lines ≡ line.Output (label output) ∷ []))
 
 -- the report has the head, and what is told of a cube of pairs of a setting
-pub record ReportsBounds (edges outputs : Bool) (setting : Setting) (cube : List Trit) (report : List Line) : Type 0 where
+pub record ReportsBounds (asked : Bound) (setting : Setting) (cube : List Trit) (report : List Line) : Type 0 where
   pub arrivals : Option ℕ
   pub possibles : Option ℕ
   pub both : Option ℕ
@@ -85,17 +86,19 @@ pub record ReportsBounds (edges outputs : Bool) (setting : Setting) (cube : List
   pub possibles_is : IsSoundBound by.Possible setting cube possibles
   pub both_is : IsSoundBound by.Both setting cube both
   pub by_edges : List Line
-  pub has_edges : HasEdges edges setting cube by_edges
+  pub has_edges : HasEdges asked.edges setting cube by_edges
   pub named : List Line
-  pub tells : TellsBound outputs setting cube both named
-  pub is : report ≡ head_lines setting.netlist ++ bound_lines arrivals possibles both ++ by_edges ++ named
+  pub tells : TellsBound asked.outputs setting cube both named
+  pub started : List Line
+  pub starts : TellsStart asked.earliest setting cube started
+  pub is : report ≡ head_lines setting.netlist ++ bound_lines arrivals possibles both ++ by_edges ++ named ++ started
 
 -- the report has the bounds of the cube of pairs that the request asks about
 pub record IsTrueBound (text : List ℕ) (reading : Reading) (asked : Bound) (outcome : Outcome) : Type 0 where
   pub setting : Setting
   pub cube : List Trit
   pub about : IsCube text reading asked.inputs setting cube
-  pub report : ReportsBounds asked.edges asked.outputs setting cube outcome.report
+  pub report : ReportsBounds asked setting cube outcome.report
   pub ends : outcome.status ≡ Done
 
 abbrev pub IsRefusedBound : List ℕ → Reading → Bound → Refusal → Type 0

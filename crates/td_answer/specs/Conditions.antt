@@ -3,13 +3,11 @@ use Rattle.std.specs.Prelude.{ℕ, Bool, true, false, List, Option}
 use Rattle.td_reading.specs.declared.reading.Reading.{Reading}
 use Rattle.td_certificate.specs.declared.certificate.Certificate.{Certificate}
 use Rattle.td_lines.specs.declared.line.Line.{Line}
-use Rattle.td_request.specs.declared.question.Question.{Question}
 use Rattle.td_request.specs.declared.request.Search.{Search}
 use Rattle.td_answer.specs.Certified.{IsCertified}
 use Rattle.td_answer.specs.Kept.{has_conditions, IsTrueKept, IsCertifiedAmong}
 use Rattle.td_answer.specs.Sentences.{IsTrueWorst}
 use Rattle.td_answer.specs.declared.outcome.Outcome.{Outcome}
-use Rattle.td_answer.specs.declared.status.Status.{Status}
 
 -- of all admitted pairs, or of those that keep conditions
 abbrev pub IsTrueBy : Bool → List ℕ → Reading → Search → Outcome → Type 0
@@ -19,9 +17,9 @@ IsTrueBy true text reading search outcome = IsTrueKept text reading search outco
 abbrev pub IsTrueSearch : List ℕ → Reading → Search → Outcome → Type 0
 IsTrueSearch text reading search outcome = IsTrueBy (has_conditions search.question) text reading search outcome
 
-abbrev pub IsCertifiedBy : Bool → List ℕ → Reading → Question → List Line → Option Certificate → Status → Type 0
-IsCertifiedBy false text reading question report certificate ending = IsCertified text reading question report certificate ending
-IsCertifiedBy true text reading question report certificate ending = IsCertifiedAmong text reading question report certificate ending
+abbrev pub IsCertifiedBy : Bool → List ℕ → Reading → Search → List Line → Option Certificate → Type 0
+IsCertifiedBy false text reading search report certificate = IsCertified text reading search report certificate
+IsCertifiedBy true text reading search report certificate = IsCertifiedAmong text reading search report certificate
 
-abbrev pub IsCertifiedFor : List ℕ → Reading → Question → List Line → Option Certificate → Status → Type 0
-IsCertifiedFor text reading question report certificate ending = IsCertifiedBy (has_conditions question) text reading question report certificate ending
+abbrev pub IsCertifiedFor : List ℕ → Reading → Search → List Line → Option Certificate → Type 0
+IsCertifiedFor text reading search report certificate = IsCertifiedBy (has_conditions search.question) text reading search report certificate

@@ -16,12 +16,13 @@ use Rattle.td_certificate.specs.Questions.{Terms, asking_of}
 use Rattle.td_certificate.specs.Spelling.{HasSpelling}
 use Rattle.td_request.specs.declared.question.Question.{Question}
 use Rattle.td_request.specs.declared.request.Search.{Search}
-use Rattle.td_request.specs.declared.request.Shown.{Shown}
-use Rattle.td_question.specs.Asking.{IsAskedKeeping, keep_words}
+use Rattle.td_question.specs.Asking.{IsAskedKeeping, keep_quotes}
 use Rattle.td_lines.specs.declared.line.Cause.{Cause}
 use Rattle.td_lines.specs.declared.line.Line.{Line}
 use Rattle.td_lines.specs.declared.line.Line.TheVariants as line
+use Rattle.td_answer.specs.Certified.{ClaimsPrinted, SaysBetween}
 use Rattle.td_answer.specs.Heads.{head_lines}
+use Rattle.td_answer.specs.Requirements.{TellsRequired}
 use Rattle.td_answer.specs.Runs.{TellsPair, RunsPair}
 use Rattle.td_answer.specs.Dumps.{IsDumpWhere}
 use Rattle.td_answer.specs.declared.outcome.Outcome.{Outcome}
@@ -35,7 +36,7 @@ has_some (first ∷ others) = true
 
 -- whether a question has conditions
 abbrev pub has_conditions : Question → Bool
-has_conditions question = has_some (keep_words question.inputs)
+has_conditions question = has_some (keep_quotes question)
 
 -- ---- figures
 
@@ -45,36 +46,42 @@ pub record HasDelayAmong (setting : Setting) (asking : Asking) (pair : Pair) (de
   pub delays : IsDelayOfBits setting pair.first pair.second delay
 
 -- The first line is `exact N`. The pair on the next lines is one of those asked about and has N, and
--- none of them is later. After the nodes come what is asked of its run.
-pub record IsExactAmong (setting : Setting) (asking : Asking) (shown : Shown) (pair : Pair) (lines : List Line) : Type 0 where
+-- none of them is later. After the nodes come what is required, and what is asked of its run.
+pub record IsExactAmong (setting : Setting) (asking : Asking) (search : Search) (pair : Pair) (lines : List Line) (ending : Status) : Type 0 where
   pub time : ℕ
   pub nodes : ℕ
+  pub required : List Line
   pub more : List Line
-  pub printed : lines ≡ line.Exact time ∷ line.From pair.first ∷ line.To pair.second ∷ line.Nodes nodes ∷ more
+  pub printed : lines ≡ line.Exact time ∷ line.From pair.first ∷ line.To pair.second ∷ line.Nodes nodes ∷ (required ++ more)
   pub has : HasDelayAmong setting asking pair time
   pub greatest : IsBoundAmong setting asking time
-  pub tells : TellsPair shown setting pair more
+  pub stands : TellsRequired (IsBoundAmong setting asking) (HasDelayAmong setting asking pair) status.Done search.required required ending
+  pub tells : TellsPair search.shown setting pair more
 
 -- It is `between L H`: the pair that follows is one of those asked about and has L, and none of them is
 -- later than H.
-pub record IsBetweenAmong (setting : Setting) (asking : Asking) (shown : Shown) (pair : Pair) (lines : List Line) : Type 0 where
+pub record IsBetweenAmong (setting : Setting) (asking : Asking) (search : Search) (pair : Pair) (lines : List Line) (ending : Status) : Type 0 where
   pub low : ℕ
   pub high : ℕ
   pub cause : Cause
   pub nodes : ℕ
+  pub required : List Line
   pub more : List Line
-  pub printed : lines ≡ line.Between low high ∷ line.Cause cause ∷ line.From pair.first ∷ line.To pair.second ∷ line.Nodes nodes ∷ more
+  pub printed : lines ≡ line.Between low high ∷ line.Cause cause ∷ line.From pair.first ∷ line.To pair.second ∷ line.Nodes nodes ∷ (required ++ more)
   pub has : HasDelayAmong setting asking pair low
   pub greatest : IsBoundAmong setting asking high
   pub ordered : low ≤ high
-  pub tells : TellsPair shown setting pair more
+  pub stands : TellsRequired (IsBoundAmong setting asking) (HasDelayAmong setting asking pair) status.Between search.required required ending
+  pub tells : TellsPair search.shown setting pair more
 
 -- It is `between none H`: no pair that is asked about is later than H.
-pub record IsAtMost (setting : Setting) (asking : Asking) (lines : List Line) : Type 0 where
+pub record IsAtMost (setting : Setting) (asking : Asking) (search : Search) (lines : List Line) (ending : Status) : Type 0 where
   pub high : ℕ
   pub cause : Cause
-  pub printed : lines ≡ line.AtMost high ∷ line.Cause cause ∷ []
+  pub required : List Line
+  pub printed : lines ≡ line.AtMost high ∷ line.Cause cause ∷ required
   pub greatest : IsBoundAmong setting asking high
+  pub stands : TellsRequired (IsBoundAmong setting asking) (λ delay. ⊥) status.Between search.required required ending
 
 -- It is `none`: no pair is asked about.
 pub record IsNone (setting : Setting) (asking : Asking) (lines : List Line) : Type 0 where
@@ -86,16 +93,14 @@ pub record IsNone (setting : Setting) (asking : Asking) (lines : List Line) : Ty
 abbrev pub DumpsPair : Search → Setting → Pair → Option Waves → Type 0
 DumpsPair search setting pair dump = IsDumpWhere (is_some search.dump) setting (RunsPair setting pair) dump
 
--- The search ends with status 0 just where its figure is exact, and with status 1 just where no pair
--- is asked about. Where no pair is known, there is no dump.
+-- The search ends with status 1 just where no pair is asked about; where nothing is required, it ends
+-- with status 0 just where its figure is exact. Where no pair is known, there is no dump.
 abbrev pub HasFigureAmong : Setting → Asking → Search → List Line → Option Waves → Status → Type 0
-HasFigureAmong setting asking search lines dump status.Done =
-    (pair : Pair) × IsExactAmong setting asking search.shown pair lines × DumpsPair search setting pair dump
-HasFigureAmong setting asking search lines dump status.Between =
-    ((pair : Pair) × IsBetweenAmong setting asking search.shown pair lines × DumpsPair search setting pair dump)
-    ⊎ (IsAtMost setting asking lines × (dump ≡ None))
-HasFigureAmong setting asking search lines dump status.Refused = IsNone setting asking lines × (dump ≡ None)
-HasFigureAmong setting asking search lines dump other = ⊥
+HasFigureAmong setting asking search lines dump ending =
+    ((pair : Pair) × IsExactAmong setting asking search pair lines ending × DumpsPair search setting pair dump)
+    ⊎ ((pair : Pair) × IsBetweenAmong setting asking search pair lines ending × DumpsPair search setting pair dump)
+    ⊎ (IsAtMost setting asking search lines ending × (dump ≡ None))
+    ⊎ (IsNone setting asking lines × (dump ≡ None) × (ending ≡ status.Refused))
 
 -- What the request asks of the text is this setting, which pairs are admitted, and what they keep; the
 -- report begins with the head of its netlist, and what follows is true of these pairs.
@@ -122,19 +127,17 @@ pub record IsShownAmong (text : List ℕ) (reading : Reading) (question : Questi
   pub accepted : Accepts netlist certificate
   pub written : HasSpelling certificate
 
--- it claims the time that is printed, and no other moment
-pub record ClaimsPrinted (report : List Line) (certificate : Certificate) : Type 0 where
-  pub claim : Claim
-  pub claims : certificate.claim ≡ Some claim
-  pub tells : Contains report (line.Exact claim.time)
-  pub closed : claim.high ≡ claim.time
+-- what it claims is printed
+abbrev pub TellsClaim : Search → List Line → Option Claim → Type 0
+TellsClaim search report None = Contains report line.NoPair
+TellsClaim search report (Some claim) = ClaimsPrinted search report claim
 
--- an exact answer has one, and that no pair is asked about; no other does
-abbrev pub IsCertifiedAmong : List ℕ → Reading → Question → List Line → Option Certificate → Status → Type 0
-IsCertifiedAmong text reading question report (Some certificate) status.Done =
-    IsShownAmong text reading question certificate × ClaimsPrinted report certificate
-IsCertifiedAmong text reading question report (Some certificate) status.Refused =
-    IsShownAmong text reading question certificate × (certificate.claim ≡ None) × Contains report line.NoPair
-IsCertifiedAmong text reading question report None status.Done = ⊥
-IsCertifiedAmong text reading question report None status.Refused = ⊥
-IsCertifiedAmong text reading question report certificate other = certificate ≡ None
+-- the report says that the worst delay stays open
+abbrev pub SaysOpen : List Line → Type 0
+SaysOpen report = SaysBetween report ⊎ ((high : ℕ) × Contains report (line.AtMost high))
+
+-- an exact answer has one, and that no pair is asked about
+abbrev pub IsCertifiedAmong : List ℕ → Reading → Search → List Line → Option Certificate → Type 0
+IsCertifiedAmong text reading search report (Some certificate) =
+    IsShownAmong text reading search.question certificate × TellsClaim search report certificate.claim
+IsCertifiedAmong text reading search report None = SaysOpen report

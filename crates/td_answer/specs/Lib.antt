@@ -14,12 +14,18 @@ pub mod Sentences
 pub mod Certified
 pub mod Kept
 pub mod KeptTerms
+pub mod OpenCertificates
 pub mod Conditions
+pub mod Requirements
 pub mod Searches
+pub mod Findings
+pub mod Columns
 pub mod Tables
+pub mod Hazards
 pub mod Simulations
 pub mod Paths
 pub mod Additions
+pub mod Starts
 pub mod Bounds
 pub mod BoundNets
 pub mod Infos
@@ -27,5 +33,6 @@ pub mod Parts
 pub mod Differences
 pub mod Joins
 pub mod Unjoined
+pub mod Filled
 pub mod Outcomes
 pub mod Writing

@@ -3,30 +3,31 @@ use Rattle.std.specs.Prelude.{ℕ, Bool, true, false, List, [], ◌∷◌, lengt
 use Rattle.td_domain.specs.Pairs.{Pair}
 use Rattle.td_certificate.specs.declared.certificate.Claim.{Claim}
 use Rattle.td_search.specs.declared.answers.Cause.{Cause}
-use Rattle.td_search.specs.declared.answers.Cause.TheVariants as cause
 use Rattle.td_search.specs.declared.answers.Answer.{Answer}
 use Rattle.td_search.specs.declared.answers.Answer.TheVariants as answer
 use Rattle.td_lines.specs.declared.line.Line.{Line}
 use Rattle.td_lines.specs.declared.line.Line.TheVariants as line
-use Rattle.td_lines.specs.declared.line.Cause.TheVariants as why
+use Rattle.td_answer.specs.Requirements.{required_lines, cause_by, ending_by}
 use Rattle.td_answer.specs.declared.status.Status.{Status}
 use Rattle.td_answer.specs.declared.status.Status.TheVariants as status
 
-abbrev pub cause_line : Cause → Line
-cause_line cause.Budget = line.Cause why.Budget
-cause_line cause.Memory = line.Cause why.Memory
-cause_line cause.Time = line.Cause why.Time
+-- of a worst delay, with what is required
+abbrev pub exact_lines : Option ℕ → ℕ → Pair → ℕ → List Line
+exact_lines required time pair nodes =
+    line.Exact time ∷ line.From pair.first ∷ line.To pair.second ∷ line.Nodes nodes ∷ required_lines required time time
 
-abbrev pub exact_lines : ℕ → Pair → ℕ → List Line
-exact_lines time pair nodes = line.Exact time ∷ line.From pair.first ∷ line.To pair.second ∷ line.Nodes nodes ∷ []
+abbrev pub between_lines : Option ℕ → ℕ → ℕ → Cause → Pair → ℕ → List Line
+between_lines required low high cause pair nodes =
+    line.Between low high ∷ cause_by required low high cause ∷ line.From pair.first ∷ line.To pair.second ∷ line.Nodes nodes
+    ∷ required_lines required low high
 
-abbrev pub between_lines : ℕ → ℕ → Cause → Pair → ℕ → List Line
-between_lines low high cause pair nodes =
-    line.Between low high ∷ cause_line cause ∷ line.From pair.first ∷ line.To pair.second ∷ line.Nodes nodes ∷ []
+-- where no pair is known
+abbrev pub at_most_lines : Option ℕ → ℕ → Cause → List Line
+at_most_lines required high cause = line.AtMost high ∷ cause_by required 0 high cause ∷ required_lines required 0 high
 
-abbrev pub answer_lines : Answer → List Line
-answer_lines (answer.Exact time pair tree) = exact_lines time pair (length tree)
-answer_lines (answer.Between low high pair nodes cause) = between_lines low high cause pair nodes
+abbrev pub answer_lines : Option ℕ → Answer → List Line
+answer_lines required (answer.Exact time pair tree) = exact_lines required time pair (length tree)
+answer_lines required (answer.Between low high pair nodes cause) = between_lines required low high cause pair nodes
 
 -- the time of a whole whose parts were checked, or weren't, and that no pair is admitted
 abbrev pub time_line : Bool → ℕ → Line
@@ -48,6 +49,6 @@ abbrev pub pair_in : Answer → Pair
 pair_in (answer.Exact time pair tree) = pair
 pair_in (answer.Between low high pair nodes why) = pair
 
-abbrev pub ending_of : Answer → Status
-ending_of (answer.Exact time pair tree) = status.Done
-ending_of (answer.Between low high pair nodes why) = status.Between
+abbrev pub ending_of : Option ℕ → Answer → Status
+ending_of required (answer.Exact time pair tree) = ending_by required status.Done time time
+ending_of required (answer.Between low high pair nodes why) = ending_by required status.Between low high

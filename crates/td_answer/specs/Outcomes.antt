@@ -1,16 +1,20 @@
 -- What is true of the outcome of a request, by its command.
-use Rattle.std.specs.Prelude.{◌≡◌, ℕ, Bool, true, false, List, Option, Some, None, slice_get}
+use Rattle.std.specs.Prelude.{◌≡◌, ℕ, List, Option, Some, None, slice_get}
 use Rattle.std.specs.Global.{Vec}
 use Rattle.td_reading.specs.declared.reading.Reading.{Reading}
 use Rattle.td_search.specs.Problems.{Problem}
 use Rattle.td_question.specs.Asking.{IsAsked}
 use Rattle.td_request.specs.declared.request.Search.{Search}
+use Rattle.td_request.specs.declared.request.Table.{Table}
+use Rattle.td_request.specs.declared.request.Table.TheVariants as table
 use Rattle.td_request.specs.declared.request.Check.{Check}
 use Rattle.td_request.specs.declared.request.Command.{Command}
 use Rattle.td_request.specs.declared.request.Command.TheVariants as command
 use Rattle.td_request.specs.declared.request.Request.{Request}
 use Rattle.td_answer.specs.Bounds.{IsTrueBound, IsRefusedBound}
 use Rattle.td_answer.specs.Conditions.{IsTrueSearch, IsCertifiedFor}
+use Rattle.td_answer.specs.Filled.{filled}
+use Rattle.td_answer.specs.Hazards.{AreTrueHazards}
 use Rattle.td_answer.specs.Infos.{IsTrueInfo, IsRefusedInfo}
 use Rattle.td_answer.specs.Joins.{texts_of, IsTrueJoin, IsRefusedJoin}
 use Rattle.td_answer.specs.Parts.{IsTrueParts, IsRefusedParts}
@@ -39,13 +43,15 @@ IsRefusedChecked text reading asked (Some spelled) reason = IsRefusedCheck text 
 -- ---- searches
 
 -- for all outputs at once, or for each alone
-abbrev pub IsSearchedTrue : Bool → List ℕ → Reading → Search → Outcome → Type 0
-IsSearchedTrue false text reading asked outcome = IsTrueSearch text reading asked outcome
-IsSearchedTrue true text reading asked outcome = IsTrueTable text reading asked outcome
+abbrev pub IsSearchedTrue : Option Table → List ℕ → Reading → Search → Outcome → Type 0
+IsSearchedTrue None text reading asked outcome = IsTrueSearch text reading asked outcome
+IsSearchedTrue (Some table.Hazards) text reading asked outcome = AreTrueHazards text reading asked outcome
+IsSearchedTrue (Some table.Delays) text reading asked outcome = IsTrueTable text reading asked outcome
+IsSearchedTrue (Some (table.Changes figures)) text reading asked outcome = IsTrueTable text reading asked outcome
 
-abbrev pub IsCertifiedSearch : Bool → List ℕ → Reading → Search → Outcome → Type 0
-IsCertifiedSearch false text reading asked outcome = IsCertifiedFor text reading asked.question outcome.report outcome.certificate outcome.status
-IsCertifiedSearch true text reading asked outcome = outcome.certificate ≡ None
+abbrev pub IsCertifiedSearch : Option Table → List ℕ → Reading → Search → Outcome → Type 0
+IsCertifiedSearch None text reading asked outcome = IsCertifiedFor text reading asked outcome.report outcome.certificate
+IsCertifiedSearch (Some asked_for) text reading asked outcome = outcome.certificate ≡ None
 
 -- ---- requests
 
@@ -59,7 +65,7 @@ abbrev pub SaysTrue : Command → List ℕ → Reading → List (Vec ℕ) → Ou
 SaysTrue (command.Sim asked) text reading spelled outcome = IsTrueSim text reading asked outcome
 SaysTrue (command.Path asked) text reading spelled outcome = IsTruePath text reading asked outcome
 SaysTrue (command.Bound asked) text reading spelled outcome = IsTrueBound text reading asked outcome
-SaysTrue (command.Worst asked) text reading spelled outcome = IsSearchedTrue asked.each text reading asked outcome
+SaysTrue (command.Worst asked) text reading spelled outcome = IsSearchedTrue asked.table text reading asked outcome
 SaysTrue (command.Parts asked) text reading spelled outcome = IsTrueParts text reading asked outcome
 SaysTrue (command.Join asked) text reading spelled outcome = IsTrueJoin text reading asked (texts_of spelled) outcome
 SaysTrue (command.Check asked) text reading spelled outcome = IsCheckedTrue text reading asked (slice_get spelled 0) outcome
@@ -67,7 +73,7 @@ SaysTrue command.Info text reading spelled outcome = IsTrueInfo text reading out
 
 -- the certificate
 abbrev pub IsCertifiedBy : Command → List ℕ → Reading → Outcome → Type 0
-IsCertifiedBy (command.Worst asked) text reading outcome = IsCertifiedSearch asked.each text reading asked outcome
+IsCertifiedBy (command.Worst asked) text reading outcome = IsCertifiedSearch asked.table text reading asked outcome
 IsCertifiedBy (command.Join asked) text reading outcome = Unit {0}
 IsCertifiedBy other text reading outcome = outcome.certificate ≡ None
 
@@ -83,13 +89,13 @@ IsRefusedBy (command.Check asked) text reading spelled reason = IsRefusedChecked
 IsRefusedBy command.Info text reading spelled reason = IsRefusedInfo text reading reason
 
 abbrev pub IsTrueOutcome : Request → Texts → Outcome → Type 0
-IsTrueOutcome request texts outcome = SaysTrue request.command texts.netlist.now request.reading texts.certificates.now outcome
+IsTrueOutcome request texts outcome = SaysTrue (filled texts.keep request.command) texts.netlist.now request.reading texts.certificates.now outcome
 
 abbrev pub HasCertificate : Request → Texts → Outcome → Type 0
-HasCertificate request texts outcome = IsCertifiedBy request.command texts.netlist.now request.reading outcome
+HasCertificate request texts outcome = IsCertifiedBy (filled texts.keep request.command) texts.netlist.now request.reading outcome
 
 abbrev pub IsRefused : Request → Texts → Refusal → Type 0
-IsRefused request texts reason = IsRefusedBy request.command texts.netlist.now request.reading texts.certificates.now reason
+IsRefused request texts reason = IsRefusedBy (filled texts.keep request.command) texts.netlist.now request.reading texts.certificates.now reason
 
 -- ---- the watch
 

@@ -13,9 +13,11 @@ use Rattle.td_worst.specs.declared.fault.WorstFault.TheVariants as fault
 use Rattle.td_worst.specs.Methods.{tree_of}
 use Rattle.td_join.specs.Partition.{IsPartition}
 use Rattle.td_parts.specs.Whole.{IsWhole}
-use Rattle.td_inputs.specs.Placings.{Placed}
+use Rattle.td_inputs.specs.Placings.{Placed, text_of}
+use Rattle.td_request.specs.declared.question.Question.{Question}
 use Rattle.td_request.specs.declared.request.Parts.{Parts}
-use Rattle.td_question.specs.Asking.{IsAsked, IsQuestionFault, SayTogether, keep_words}
+use Rattle.td_question.specs.Asking.{IsAsked, IsQuestionFault, SayTogether, taken_of}
+use Rattle.td_question.specs.Keeping.{keep_texts}
 use Rattle.td_lines.specs.declared.line.Line.{Line}
 use Rattle.td_lines.specs.declared.line.Line.TheVariants as line
 use Rattle.td_answer.specs.Methods.{method_of}
@@ -49,6 +51,10 @@ question_words words flips = given_words (codes "--hold") words.hold ++ flips_wo
 abbrev pub keep_options : List (List ℕ) → List (List ℕ)
 keep_options words = flat_map (λ word. codes "--keep" ∷ word ∷ []) words
 
+-- the options of conditions, and that of a file of them
+abbrev pub condition_words : List (List ℕ) → Option (List ℕ) → List (List ℕ)
+condition_words keep file = keep_options keep ++ given_words (codes "--keep-file") file
+
 -- the option of each output that is asked about
 abbrev pub outputs_words : List (List ℕ) → List (List ℕ)
 outputs_words names = flat_map (λ name. codes "--output" ∷ name ∷ []) names
@@ -68,8 +74,13 @@ reading_words reading =
     ++ outputs_words reading.outputs
 
 -- the options by which `worst` searches the part with these pins
-abbrev pub part_words : Reading → Placed → Option ℕ → List (List ℕ) → List Trit → List (List ℕ)
-part_words reading words flips keep pins = pins_words pins ++ question_words words flips ++ keep_options keep ++ reading_words reading
+abbrev pub part_words : Reading → Placed → Option ℕ → List (List ℕ) → Option (List ℕ) → List Trit → List (List ℕ)
+part_words reading words flips keep file pins = pins_words pins ++ question_words words flips ++ condition_words keep file ++ reading_words reading
+
+-- the options of the parts of a question, with words by place that say what all its words say
+abbrev pub options_of : Reading → Question → Placed → List (List Trit) → List (List (List ℕ))
+options_of reading question words cubes =
+    map (part_words reading words question.flips (keep_texts (taken_of question.inputs)) (text_of question.keep_file)) cubes
 
 -- the line has the options of each part
 abbrev pub HasParts : List (List (List ℕ)) → Line → Type 0
@@ -95,7 +106,7 @@ pub record IsTrueParts (text : List ℕ) (reading : Reading) (asked : Parts) (ou
   pub some : All (HasAdmitted admit) cubes
   pub inside : All (λ cube. IsPart cube admit.pins) cubes
   pub told : Line
-  pub has : HasParts (map (part_words reading words asked.question.flips (keep_words asked.question.inputs)) cubes) told
+  pub has : HasParts (options_of reading asked.question words cubes) told
   pub is : outcome.report ≡ told ∷ []
   pub ends : outcome.status ≡ Done
 

@@ -29,6 +29,7 @@ use Rattle.td_worst.specs.declared.fault.WorstFault.{WorstFault}
 use Rattle.td_worst.specs.declared.fault.WorstFault.TheVariants as worst
 use Rattle.td_question.specs.declared.vector.VectorWord.{VectorWord}
 use Rattle.td_question.specs.declared.vector.VectorWord.TheVariants as vector
+use Rattle.td_question.specs.declared.quote.Quote.{Quote}
 use Rattle.td_question.specs.declared.fault.QuestionFault.{QuestionFault}
 use Rattle.td_question.specs.declared.fault.QuestionFault.TheVariants as question
 use Rattle.td_lines.specs.Texts.{newline, place_text}
@@ -64,11 +65,19 @@ input_text (Some label) = label.name
 unfoldable pub bad_text : Topic → List ℕ → List ℕ
 bad_text topic word = codes "bad " ++ called topic ++ word
 
-unfoldable pub bad_keep_text : List ℕ → List ℕ
-bad_keep_text word = codes "bad keep " ++ word
+-- the line of a file, where it is of one
+abbrev pub at_line_text : Option ℕ → List ℕ
+at_line_text None = []
+at_line_text (Some line) = codes " at line " ++ decimal line
 
-unfoldable pub no_net_text : List ℕ → List ℕ
-no_net_text name = codes "no net " ++ name
+abbrev pub quote_text : Quote → List ℕ
+quote_text quote = quote.text.now ++ at_line_text quote.line
+
+unfoldable pub bad_keep_text : Quote → List ℕ
+bad_keep_text quote = codes "bad keep " ++ quote_text quote
+
+unfoldable pub no_net_text : Quote → List ℕ
+no_net_text name = codes "no net " ++ quote_text name
 
 unfoldable pub no_input_text : List ℕ → List ℕ
 no_input_text name = codes "no input " ++ name
@@ -114,8 +123,9 @@ question_text question.OutOfMemory = codes "out of memory"
 question_text (question.Source fault) = source_text fault
 question_text (question.BadName fault labels) = word_text (fault_in fault) (map label_in labels.items)
 question_text (question.BadVector word) = vector_word word
-question_text (question.BadKeep word) = bad_keep_text word.now
-question_text (question.NoNet name) = no_net_text name.now
+question_text (question.BadKeep quote) = bad_keep_text quote
+question_text (question.NoNet name) = no_net_text name
+question_text question.LongKeepFile = codes "keep file too long"
 
 abbrev pub search_text : WorstFault → List ℕ
 search_text (worst.Search search.NoPair) = codes "no admitted pair"

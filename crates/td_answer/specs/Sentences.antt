@@ -1,5 +1,5 @@
 -- What is true of the outcome of a search: the sentence at the top.
-use Rattle.std.specs.Prelude.{◌≡◌, ◌≤◌, ℕ, List, ◌∷◌, ◌++◌, is_some}
+use Rattle.std.specs.Prelude.{◌≡◌, ◌⊎◌, ◌≤◌, ℕ, List, ◌∷◌, ◌++◌, is_some}
 use Rattle.td_circuit.specs.Settings.{Setting}
 use Rattle.td_circuit.specs.Run.{IsDelayOfBits}
 use Rattle.td_domain.specs.Pairs.{Pair}
@@ -7,12 +7,12 @@ use Rattle.td_domain.specs.Admits.{Admitted, IsAdmitted}
 use Rattle.td_domain.specs.Worst.{IsUpperBound, IsWorst}
 use Rattle.td_reading.specs.declared.reading.Reading.{Reading}
 use Rattle.td_request.specs.declared.request.Search.{Search}
-use Rattle.td_request.specs.declared.request.Shown.{Shown}
 use Rattle.td_question.specs.Asking.{IsAsked}
 use Rattle.td_lines.specs.declared.line.Cause.{Cause}
 use Rattle.td_lines.specs.declared.line.Line.{Line}
 use Rattle.td_lines.specs.declared.line.Line.TheVariants as line
 use Rattle.td_answer.specs.Heads.{head_lines}
+use Rattle.td_answer.specs.Requirements.{TellsRequired}
 use Rattle.td_answer.specs.Runs.{TellsPair, RunsPair}
 use Rattle.td_answer.specs.Dumps.{IsDumpWhere}
 use Rattle.td_answer.specs.declared.outcome.Outcome.{Outcome}
@@ -25,35 +25,37 @@ pub record HasDelay (setting : Setting) (admit : Admitted) (pair : Pair) (delay 
   pub delays : IsDelayOfBits setting pair.first pair.second delay
 
 -- The first line is `exact N`, and N is the worst delay of the admitted pairs. The pair on the next
--- lines is admitted and has it. After the nodes come what is asked of its run.
-pub record IsExact (setting : Setting) (admit : Admitted) (shown : Shown) (pair : Pair) (lines : List Line) : Type 0 where
+-- lines is admitted and has it. After the nodes come what is required, and what is asked of its run.
+pub record IsExact (setting : Setting) (admit : Admitted) (search : Search) (pair : Pair) (lines : List Line) (ending : Status) : Type 0 where
   pub time : ℕ
   pub nodes : ℕ
+  pub required : List Line
   pub more : List Line
-  pub printed : lines ≡ line.Exact time ∷ line.From pair.first ∷ line.To pair.second ∷ line.Nodes nodes ∷ more
+  pub printed : lines ≡ line.Exact time ∷ line.From pair.first ∷ line.To pair.second ∷ line.Nodes nodes ∷ (required ++ more)
   pub worst : IsWorst setting admit time
   pub has : HasDelay setting admit pair time
-  pub tells : TellsPair shown setting pair more
+  pub stands : TellsRequired (IsUpperBound setting admit) (HasDelay setting admit pair) status.Done search.required required ending
+  pub tells : TellsPair search.shown setting pair more
 
 -- It is `between L H`: the pair that follows is admitted and has L, and no admitted pair is later
 -- than H.
-pub record IsBetween (setting : Setting) (admit : Admitted) (shown : Shown) (pair : Pair) (lines : List Line) : Type 0 where
+pub record IsBetween (setting : Setting) (admit : Admitted) (search : Search) (pair : Pair) (lines : List Line) (ending : Status) : Type 0 where
   pub low : ℕ
   pub high : ℕ
   pub cause : Cause
   pub nodes : ℕ
+  pub required : List Line
   pub more : List Line
-  pub printed : lines ≡ line.Between low high ∷ line.Cause cause ∷ line.From pair.first ∷ line.To pair.second ∷ line.Nodes nodes ∷ more
+  pub printed : lines ≡ line.Between low high ∷ line.Cause cause ∷ line.From pair.first ∷ line.To pair.second ∷ line.Nodes nodes ∷ (required ++ more)
   pub has : HasDelay setting admit pair low
   pub greatest : IsUpperBound setting admit high
   pub ordered : low ≤ high
-  pub tells : TellsPair shown setting pair more
+  pub stands : TellsRequired (IsUpperBound setting admit) (HasDelay setting admit pair) status.Between search.required required ending
+  pub tells : TellsPair search.shown setting pair more
 
--- the search ends with status 0 just where its figure is exact
-abbrev pub HasFigure : Setting → Admitted → Shown → Pair → List Line → Status → Type 0
-HasFigure setting admit shown pair lines status.Done = IsExact setting admit shown pair lines
-HasFigure setting admit shown pair lines status.Between = IsBetween setting admit shown pair lines
-HasFigure setting admit shown pair lines other = ⊥
+-- where nothing is required, the search ends with status 0 just where its figure is exact
+abbrev pub HasFigure : Setting → Admitted → Search → Pair → List Line → Status → Type 0
+HasFigure setting admit search pair lines ending = IsExact setting admit search pair lines ending ⊎ IsBetween setting admit search pair lines ending
 
 -- What the request asks of the text is this setting and which pairs are admitted; the report begins
 -- with the head of its netlist, and what follows is true of it. The dump that is asked for has the
@@ -65,5 +67,5 @@ pub record IsTrueWorst (text : List ℕ) (reading : Reading) (search : Search) (
   pub pair : Pair
   pub lines : List Line
   pub is : outcome.report ≡ head_lines setting.netlist ++ lines
-  pub figure : HasFigure setting admit search.shown pair lines outcome.status
+  pub figure : HasFigure setting admit search pair lines outcome.status
   pub dumped : IsDumpWhere (is_some search.dump) setting (RunsPair setting pair) outcome.dump

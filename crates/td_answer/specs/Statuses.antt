@@ -10,7 +10,7 @@ use Rattle.td_worst.specs.declared.fault.WorstFault.TheVariants as worst
 use Rattle.td_checker.specs.declared.verdict.CheckFault.{CheckFault}
 use Rattle.td_checker.specs.declared.verdict.CheckFault.TheVariants as check
 use Rattle.td_answer.specs.declared.status.Status.{Status}
-use Rattle.td_answer.specs.declared.status.Status.TheVariants.{Done, Refused, BadCommand, Between, Rejected, Device}
+use Rattle.td_answer.specs.declared.status.Status.TheVariants.{Done, Refused, BadCommand, Between, Rejected, Device, Violated}
 use Rattle.td_answer.specs.declared.refusal.Refusal.{Refusal}
 use Rattle.td_answer.specs.declared.refusal.Refusal.TheVariants as refusal
 
@@ -22,6 +22,7 @@ code_of BadCommand = 2
 code_of Between = 3
 code_of Rejected = 4
 code_of Device = 5
+code_of Violated = 6
 
 abbrev pub source_status : SourceFault → Status
 source_status source.OutOfMemory = Device
@@ -36,6 +37,7 @@ question_status (question.BadName fault labels) = BadCommand
 question_status (question.BadVector word) = BadCommand
 question_status (question.BadKeep word) = BadCommand
 question_status (question.NoNet name) = BadCommand
+question_status question.LongKeepFile = Refused
 
 abbrev pub search_status : WorstFault → Status
 search_status (worst.Search search.OutOfMemory) = Device

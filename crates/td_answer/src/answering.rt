@@ -4,12 +4,15 @@ ghost use Rattle.std.specs.Prelude.{◌≡◌, ◌⊎◌, slice_get, IfOk, IfErr
 ghost use Rattle.td_search.specs.Problems.{Problem};
 ghost use Rattle.td_question.specs.Asking.{IsAsked};
 ghost use Rattle.td_answer.specs.Searches.{IsRefusedSearch};
+ghost use Rattle.td_answer.specs.Filled.{filled};
 ghost use Rattle.td_answer.specs.Outcomes.{IsPlain, IsCheckedTrue, IsRefusedChecked, IsSearchedTrue, IsCertifiedSearch, IsSearched, IsTrueOutcome, HasCertificate, IsRefused};
 ghost use Rattle.td_answer.specs.Writing.{CanBeWritten};
 
 use crate::bound::bounds;
 use crate::check::verdict_on;
 use crate::each::table;
+use crate::filled::{filled_parts, filled_search};
+use crate::hazards::hazards;
 use crate::info::info;
 use crate::join::join;
 use crate::outcome::Outcome;
@@ -25,7 +28,7 @@ use std::thread::Threads;
 use std::time::Clock;
 use td_pool::Watch;
 use td_reading::Reading;
-use td_request::{Check, Command, Request, Search};
+use td_request::{Check, Command, Request, Search, Table};
 
 /// The outcome of a request on the texts of its files. The watch gets the progress of a search.
 ///
@@ -36,7 +39,7 @@ pub fn answer<'n, 'w, 'c, W: Watch, R: Threads + Wait + Clock + Sync>(
     rt: &R,
     alloc: Global,
     request: &Request<'w>,
-    texts: &Texts<'n, 'c>,
+    texts: &Texts<'n, 'c, 'w>,
     watch: &mut W,
 ) -> Result<Outcome, Refusal<'n, 'w>>
     ensures says { IfOk result (IsTrueOutcome request.now texts.now) }
@@ -45,11 +48,12 @@ pub fn answer<'n, 'w, 'c, W: Watch, R: Threads + Wait + Clock + Sync>(
     ensures refusal { IfErr result (IsRefused request.now texts.now) }
     // The progress that the watch got, if any, is true of what is asked.
     ensures reported { (watch.new ≡ watch.old)
-        ⊎ ((asked : Problem) × IsSearched request.now.command texts.now.netlist.now request.now.reading asked × W.reported asked watch.old watch.new) }
+        ⊎ ((asked : Problem) × IsSearched (filled texts.now.keep request.now.command) texts.now.netlist.now request.now.reading asked × W.reported asked watch.old watch.new) }
 {
     match &request.command {
         Command::Worst(search) => {
-            searched(rt, alloc, texts.netlist, &request.reading, search, watch)
+            let search = filled_search(search, texts.keep);
+            searched(rt, alloc, texts.netlist, &request.reading, &search, watch)
         }
         _ => answer_plain(alloc, request, texts),
     }
@@ -59,7 +63,7 @@ pub fn answer<'n, 'w, 'c, W: Watch, R: Threads + Wait + Clock + Sync>(
 pub fn answer_plain<'n, 'w, 'c>(
     alloc: Global,
     request: &Request<'w>,
-    texts: &Texts<'n, 'c>,
+    texts: &Texts<'n, 'c, 'w>,
 ) -> Result<Outcome, Refusal<'n, 'w>>
     requires { IsPlain request.now.command }
     ensures says { IfOk result (IsTrueOutcome request.now texts.now) }
@@ -74,8 +78,11 @@ pub fn answer_plain<'n, 'w, 'c>(
         Command::Sim(asked) => return sim(alloc, text, reading, asked),
         Command::Path(asked) => return path(alloc, text, reading, asked),
         Command::Bound(asked) => return bounds(alloc, text, reading, asked),
-        Command::Parts(asked) => return parts(alloc, text, reading, asked),
-        Command::Join(asked) => return join(alloc, text, reading, asked, texts.certificates),
+        Command::Parts(asked) => {
+            let asked = filled_parts(asked, texts.keep);
+            return parts(alloc, text, reading, &asked);
+        }
+        Command::Join(asked) => return join(alloc, reading, asked, texts),
         Command::Info => return info(alloc, text, reading),
         Command::Worst(_) => unreachable!(),
     }
@@ -89,17 +96,19 @@ fn searched<'n, 'w, W: Watch, R: Threads + Wait + Clock + Sync>(
     search: &Search<'w>,
     watch: &mut W,
 ) -> Result<Outcome, Refusal<'n, 'w>>
-    ensures says { IfOk result (IsSearchedTrue search.now.each text.now reading.now search.now) }
-    ensures certified { IfOk result (IsCertifiedSearch search.now.each text.now reading.now search.now) }
+    ensures says { IfOk result (IsSearchedTrue search.now.table text.now reading.now search.now) }
+    ensures certified { IfOk result (IsCertifiedSearch search.now.table text.now reading.now search.now) }
     ensures written { IfOk result CanBeWritten }
     ensures refusal { IfErr result (IsRefusedSearch text.now reading.now search.now) }
     ensures reported { (watch.new ≡ watch.old)
         ⊎ ((asked : Problem) × IsAsked text.now reading.now search.now.question asked.setting asked.admit × W.reported asked watch.old watch.new) }
 {
-    if search.each {
-        return table(rt, alloc, text, reading, search);
+    match search.table {
+        None => worst(rt, alloc, text, reading, search, watch),
+        Some(Table::Hazards) => hazards(rt, alloc, text, reading, search),
+        Some(Table::Delays) => table(rt, alloc, text, reading, search),
+        Some(Table::Changes { .. }) => table(rt, alloc, text, reading, search),
     }
-    worst(rt, alloc, text, reading, search, watch)
 }
 
 /// The verdict on the certificate's text, if it is there.

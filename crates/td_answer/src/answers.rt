@@ -2,9 +2,10 @@
 
 ghost use Rattle.std.specs.Prelude.{◌≡◌, ◌++◌, length, IfOk, OnOk};
 ghost use Rattle.td_answer.specs.Heads.{head_lines};
-ghost use Rattle.td_answer.specs.Lines.{cause_line, exact_lines, between_lines, answer_lines, ending_of, pair_in};
+ghost use Rattle.td_answer.specs.Lines.{exact_lines, between_lines, answer_lines, ending_of, pair_in};
 
 use crate::head::begun;
+use crate::requirement::{cause_by, ending_by, push_required};
 use crate::status::Status;
 use std::alloc::{AllocError, Global};
 use td_certificate::Tree;
@@ -23,41 +24,56 @@ pub(crate) fn pair_in(answer: &Answer) -> &Pair
     }
 }
 
-/// How a search ends with an answer.
-pub(crate) fn ending_of(answer: &Answer) -> Status
-    ensures { result ≡ ending_of answer.now }
+/// How a search ends with an answer, where this moment is required.
+pub(crate) fn ending_of(required: Option<u64>, answer: &Answer) -> Status
+    ensures { result ≡ ending_of required answer.now }
 {
     match answer {
-        Answer::Exact { .. } => Status::Done,
-        Answer::Between { .. } => Status::Between,
+        Answer::Exact { time, .. } => ending_by(required, Status::Done, *time, *time),
+        Answer::Between { low, high, .. } => ending_by(required, Status::Between, *low, *high),
     }
 }
 
-/// The report of an answer.
+/// The report of an answer, where this moment is required.
 pub(crate) fn report_of(
     alloc: Global,
     circuit: &Circuit,
+    required: Option<u64>,
     answer: &Answer,
 ) -> Result<Report, AllocError>
-    ensures { IfOk result (λ report. report ≡ head_lines circuit.now.netlist ++ answer_lines answer.now) }
+    ensures { IfOk result (λ report. report ≡ head_lines circuit.now.netlist ++ answer_lines required answer.now) }
 {
     let mut report = begun(alloc, circuit)?;
-    push_answer(alloc, &mut report, answer)?;
+    push_answer(alloc, &mut report, required, answer)?;
     Ok(report)
 }
 
-fn push_answer(alloc: Global, report: &mut Report, answer: &Answer) -> Result<(), AllocError>
-    ensures { OnOk result (report.new ≡ report.old ++ answer_lines answer.now) }
+fn push_answer(
+    alloc: Global,
+    report: &mut Report,
+    required: Option<u64>,
+    answer: &Answer,
+) -> Result<(), AllocError>
+    ensures { OnOk result (report.new ≡ report.old ++ answer_lines required answer.now) }
 {
     match answer {
-        Answer::Exact { time, pair, tree } => push_exact(alloc, report, *time, pair, tree),
+        Answer::Exact { time, pair, tree } => {
+            push_exact(alloc, report, required, *time, pair, tree)
+        }
         Answer::Between {
             low,
             high,
             pair,
             nodes,
             cause,
-        } => push_between(alloc, report, *low, *high, *cause, pair, *nodes),
+        } => {
+            let figures = Figures {
+                low: *low,
+                high: *high,
+                cause: *cause,
+            };
+            push_between(alloc, report, required, figures, pair, *nodes)
+        }
     }
 }
 
@@ -72,11 +88,12 @@ pub(crate) fn vector_of(alloc: Global, bits: &[bool]) -> Result<Vector, AllocErr
 pub(crate) fn push_exact(
     alloc: Global,
     report: &mut Report,
+    required: Option<u64>,
     time: u64,
     pair: &Pair,
     tree: &Tree,
 ) -> Result<(), AllocError>
-    ensures { OnOk result (report.new ≡ report.old ++ exact_lines time pair.now (length tree.now)) }
+    ensures { OnOk result (report.new ≡ report.old ++ exact_lines required time pair.now (length tree.now)) }
 {
     let first = vector_of(alloc, pair.first())?;
     let second = vector_of(alloc, pair.second())?;
@@ -87,39 +104,38 @@ pub(crate) fn push_exact(
         Line::From(first),
         Line::To(second),
         Line::Nodes(nodes),
-    )
+    )?;
+    push_required(report, required, time, time)
 }
 
-/// The line that says why an answer isn't exact.
-pub(crate) fn cause_line(cause: Cause) -> Line
-    ensures { result ≡ cause_line cause }
-{
-    match cause {
-        Cause::Budget => Line::Cause(td_lines::Cause::Budget),
-        Cause::Memory => Line::Cause(td_lines::Cause::Memory),
-        Cause::Time => Line::Cause(td_lines::Cause::Time),
-    }
+/// The figures of an answer that stays open, and why it does.
+#[derive(Clone, Copy, Debug)]
+pub(crate) struct Figures {
+    pub low: u64,
+    pub high: u64,
+    pub cause: Cause,
 }
 
 /// Appends the lines of the answer of a search that was cut short.
 pub(crate) fn push_between(
     alloc: Global,
     report: &mut Report,
-    low: u64,
-    high: u64,
-    cause: Cause,
+    required: Option<u64>,
+    figures: Figures,
     pair: &Pair,
     nodes: u64,
 ) -> Result<(), AllocError>
-    ensures { OnOk result (report.new ≡ report.old ++ between_lines low high cause pair.now nodes) }
+    ensures { OnOk result (report.new ≡ report.old ++ between_lines required figures.low figures.high figures.cause pair.now nodes) }
 {
+    let Figures { low, high, cause } = figures;
     let first = vector_of(alloc, pair.first())?;
     let second = vector_of(alloc, pair.second())?;
     report.add(Line::Between { low, high })?;
     report.four(
-        cause_line(cause),
+        cause_by(required, low, high, cause),
         Line::From(first),
         Line::To(second),
         Line::Nodes(nodes),
-    )
+    )?;
+    push_required(report, required, low, high)
 }

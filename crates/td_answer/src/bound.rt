@@ -11,6 +11,7 @@ ghost use Rattle.td_answer.specs.BoundNets.{IsBoundNet, IsFirstWith};
 ghost use Rattle.td_answer.specs.Writing.{CanBeWritten};
 
 use crate::beside::output_line;
+use crate::earliest::push_earliest;
 use crate::head::begun;
 use crate::outcome::Outcome;
 use crate::refusal::Refusal;
@@ -169,17 +170,24 @@ fn report_of(
     alloc: Global,
     circuit: &Circuit,
     cube: &Cube,
-    edges: bool,
-    outputs: bool,
+    asked: &Bound<'_>,
 ) -> Result<Report, AllocError>
     requires { length cube.now ≡ 2 * length circuit.now.netlist.inputs }
-    ensures { IfOk result (ReportsBounds edges outputs (setting circuit.now) cube.now) }
+    ensures { IfOk result (ReportsBounds asked.now (setting circuit.now) cube.now) }
 {
     let mut report = begun(alloc, circuit)?;
     let bounds = bounds_of(alloc, circuit, cube)?;
     push_bounds(&mut report, bounds)?;
-    push_edges(alloc, &mut report, circuit, cube, edges)?;
-    push_named(alloc, &mut report, circuit, cube, bounds.both, outputs)?;
+    push_edges(alloc, &mut report, circuit, cube, asked.edges)?;
+    push_named(
+        alloc,
+        &mut report,
+        circuit,
+        cube,
+        bounds.both,
+        asked.outputs,
+    )?;
+    push_earliest(alloc, &mut report, circuit, cube, asked.earliest)?;
     Ok(report)
 }
 
@@ -196,12 +204,6 @@ pub(crate) fn bounds<'n, 'w>(
     ensures refusal { IfErr result (IsRefusedBound text.now reading.now asked.now) }
 {
     let about = cube_of(alloc, text, reading, &asked.inputs)?;
-    let report = report_of(
-        alloc,
-        &about.circuit,
-        &about.cube,
-        asked.edges,
-        asked.outputs,
-    )?;
+    let report = report_of(alloc, &about.circuit, &about.cube, asked)?;
     Ok(Outcome::done(report))
 }

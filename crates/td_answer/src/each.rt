@@ -10,9 +10,13 @@ ghost use Rattle.td_question.specs.Keeping.{count_nets};
 ghost use Rattle.td_answer.specs.Additions.{AddsLines};
 ghost use Rattle.td_answer.specs.Bounds.{IsSoundBound};
 ghost use Rattle.td_answer.specs.Searches.{IsRefusedSearch};
-ghost use Rattle.td_answer.specs.Tables.{found_of, kept_found, is_closed, table_ending, AreTrueFigures, IsTrueRow, AreEach, IsUnanswered, IsTrueTable};
+ghost use Rattle.td_answer.specs.Columns.{pairs_of};
+ghost use Rattle.td_answer.specs.Findings.{found_of};
+ghost use Rattle.td_answer.specs.Tables.{table_ending, AreTrueFigures, IsTrueRow, AreEach, IsUnanswered, IsTrueTable};
 ghost use Rattle.td_answer.specs.Writing.{CanBeWritten};
 
+use crate::alone::{Inquiry, kept_found};
+use crate::changes::{are_closed, asks_figures, changes_in, is_closed};
 use crate::head::begun;
 use crate::names::label;
 use crate::outcome::Outcome;
@@ -24,24 +28,16 @@ use std::sync::Wait;
 use std::thread::Threads;
 use std::time::Clock;
 use td_circuit::Circuit;
-use td_domain::{Admit, Cube, bound};
+use td_domain::{Cube, bound};
 use td_edges::Edges;
 use td_lines::{Found, Line, Report, Row};
 use td_pool::Unwatched;
 use td_question::{Asked, question_of};
 use td_reading::Reading;
-use td_refutation::NamedCondition;
 use td_request::Search;
 use td_search::Answer;
 use td_source::EachOutput;
-use td_worst::KeptAnswer;
-
-/// Which pairs are asked about: the admitted ones, and what they keep.
-#[derive(Clone, Copy)]
-struct Pairs<'a> {
-    admit: &'a Admit,
-    keep: &'a [NamedCondition],
-}
+use td_worst::{KeptAnswer, KeptQuestion, Question};
 
 /// What is found of an output: its worst delay, and its bound by edges.
 #[derive(Clone, Copy, Debug)]
@@ -63,21 +59,6 @@ fn found_of(answer: &Answer) -> Found
     }
 }
 
-/// What an answer says of the worst delay of the pairs that keep conditions.
-fn kept_found(answer: &KeptAnswer) -> Found
-    ensures { result ≡ kept_found answer.now }
-{
-    match answer {
-        KeptAnswer::Exact { best, .. } => Found::Exact(best.time),
-        KeptAnswer::Between { best, high, .. } => Found::Between {
-            low: best.time,
-            high: *high,
-        },
-        KeptAnswer::Open { high, .. } => Found::AtMost(*high),
-        KeptAnswer::NoPair { .. } => Found::NoPair,
-    }
-}
-
 /// The latest moment by edges, for the pairs of a cube.
 fn edges_of(alloc: Global, circuit: &Circuit, cube: &Cube) -> Result<Option<u64>, AllocError>
     requires { length cube.now ≡ 2 * length circuit.now.netlist.inputs }
@@ -92,35 +73,43 @@ fn timing_of<'n, 'w, R: Threads + Wait + Clock + Sync>(
     rt: &R,
     alloc: Global,
     circuit: &Circuit,
-    pairs: Pairs<'_>,
-    search: &Search<'w>,
+    inquiry: Inquiry<'_, 'w>,
 ) -> Result<Timing, Refusal<'n, 'w>>
-    requires held { length pairs.admit.now.held ≡ length circuit.now.netlist.inputs }
-    requires fit { are_fit (count_nets circuit.now.netlist) pairs.keep.now ≡ true }
-    ensures timing { IfOk result (λ timing. AreTrueFigures (setting circuit.now) (record { admit = pairs.entry.admit.now; keep = pairs.entry.keep.now }) timing.found timing.edges) }
-    ensures refusal { IfErr result (IsUnanswered search.now pairs.entry.admit.now) }
+    requires held { length inquiry.admit.now.held ≡ length circuit.now.netlist.inputs }
+    requires fit { are_fit (count_nets circuit.now.netlist) inquiry.keep.now ≡ true }
+    ensures timing { IfOk result (λ timing. AreTrueFigures (setting circuit.now) (pairs_of inquiry.entry) timing.found timing.edges) }
+    ensures refusal { IfErr result (IsUnanswered inquiry.entry.search.now inquiry.entry.admit.now) }
 {
-    let Pairs { admit, keep } = pairs;
+    let Inquiry {
+        admit,
+        keep,
+        search,
+    } = inquiry;
     let edges = edges_of(alloc, circuit, admit.pins())?;
     if !keep.is_empty() {
         let effort = effort_of(&search.effort);
-        let answer = td_worst::worst_kept(rt, alloc, circuit, admit, keep, effort)?;
+        let question = KeptQuestion {
+            circuit,
+            admit,
+            keep,
+            required: None,
+        };
+        let answer = td_worst::worst_kept(rt, alloc, question, effort)?;
         return Ok(Timing {
             found: kept_found(&answer),
             edges,
         });
     }
-    let answer = td_worst::worst(
-        rt,
-        alloc,
+    let question = Question {
         circuit,
         admit,
-        method_of(search.strategy),
-        effort_of(&search.effort),
-        &mut Unwatched,
-    )?;
+        method: method_of(search.strategy),
+        required: None,
+    };
+    let effort = effort_of(&search.effort);
+    let found = td_worst::worst(rt, alloc, question, effort, &mut Unwatched)?;
     Ok(Timing {
-        found: found_of(&answer),
+        found: found_of(&found.answer),
         edges,
     })
 }
@@ -131,24 +120,26 @@ fn row_of<'n, 'w, R: Threads + Wait + Clock + Sync>(
     alloc: Global,
     outputs: &mut EachOutput,
     place: usize,
-    pairs: Pairs<'_>,
-    search: &Search<'w>,
+    inquiry: Inquiry<'_, 'w>,
 ) -> Result<Row, Refusal<'n, 'w>>
     requires place { place < length outputs.old.whole.netlist.outputs }
-    requires held { length pairs.admit.now.held ≡ length outputs.old.whole.netlist.inputs }
-    requires fit { are_fit (count_nets outputs.old.whole.netlist) pairs.keep.now ≡ true }
+    requires held { length inquiry.admit.now.held ≡ length outputs.old.whole.netlist.inputs }
+    requires fit { are_fit (count_nets outputs.old.whole.netlist) inquiry.keep.now ≡ true }
     ensures row { IfOk result (λ row. (output : Named) → slice_get outputs.old.whole.netlist.outputs place ≡ Some output
-        → IsTrueRow (setting outputs.old.whole) (record { admit = pairs.entry.admit.now; keep = pairs.entry.keep.now }) output row) }
+        → IsTrueRow (setting outputs.old.whole) (pairs_of inquiry.entry) inquiry.entry.search.now.table output row) }
     ensures whole { outputs.new.whole ≡ outputs.old.whole }
-    ensures refusal { IfErr result (IsUnanswered search.now pairs.entry.admit.now) }
+    ensures refusal { IfErr result (IsUnanswered inquiry.entry.search.now inquiry.entry.admit.now) }
 {
     let output = label(alloc, &outputs.names()[place])?;
     outputs.ask(alloc, place)?;
-    let Timing { found, edges } = timing_of(rt, alloc, outputs.circuit(), pairs, search)?;
+    let circuit = outputs.circuit();
+    let Timing { found, edges } = timing_of(rt, alloc, circuit, inquiry)?;
+    let changes = changes_in(rt, alloc, circuit, inquiry)?;
     Ok(Row {
         output,
         found,
         edges,
+        changes,
     })
 }
 
@@ -157,40 +148,29 @@ fn rows<'n, 'w, R: Threads + Wait + Clock + Sync>(
     rt: &R,
     alloc: Global,
     outputs: &mut EachOutput,
-    pairs: Pairs<'_>,
-    search: &Search<'w>,
+    inquiry: Inquiry<'_, 'w>,
 ) -> Result<Vec<Row>, Refusal<'n, 'w>>
-    requires held { length pairs.admit.now.held ≡ length outputs.old.whole.netlist.inputs }
-    requires fit { are_fit (count_nets outputs.old.whole.netlist) pairs.keep.now ≡ true }
-    ensures rows { IfOk result (λ rows. AllZip (IsTrueRow (setting outputs.old.whole) (record { admit = pairs.entry.admit.now; keep = pairs.entry.keep.now }))
+    requires held { length inquiry.admit.now.held ≡ length outputs.old.whole.netlist.inputs }
+    requires fit { are_fit (count_nets outputs.old.whole.netlist) inquiry.keep.now ≡ true }
+    ensures rows { IfOk result (λ rows. AllZip (IsTrueRow (setting outputs.old.whole) (pairs_of inquiry.entry) inquiry.entry.search.now.table)
         outputs.old.whole.netlist.outputs rows.items) }
-    ensures refusal { IfErr result (IsUnanswered search.now pairs.entry.admit.now) }
+    ensures refusal { IfErr result (IsUnanswered inquiry.entry.search.now inquiry.entry.admit.now) }
 {
     let count = outputs.names().len();
     let mut rows = Vec::new(alloc);
     for place in 0..count {
-        let row = row_of(rt, alloc, outputs, place, pairs, search)?;
+        let row = row_of(rt, alloc, outputs, place, inquiry)?;
         rows.push(row)?;
     }
     Ok(rows)
 }
 
-/// Whether nothing is left open.
-fn is_closed(found: Found) -> bool
-    ensures { result ≡ is_closed found }
-{
-    match found {
-        Found::Exact(_) | Found::NoPair => true,
-        Found::Between { .. } | Found::AtMost(_) => false,
-    }
-}
-
 /// How a table ends: some search was cut short, or nothing is left open.
-fn ending(rows: &[Row]) -> Status
-    ensures { result ≡ table_ending rows.now }
+fn ending(figures: bool, rows: &[Row]) -> Status
+    ensures { result ≡ table_ending figures rows.now }
 {
     for row in rows {
-        if !is_closed(row.found) {
+        if !(is_closed(row.found) && are_closed(figures, &row.changes)) {
             return Status::Between;
         }
     }
@@ -228,12 +208,13 @@ pub(crate) fn table<'n, 'w, R: Threads + Wait + Clock + Sync>(
     } = question_of(alloc, text, reading, &search.question)?;
     let mut report = begun(alloc, &circuit)?;
     let mut outputs = EachOutput::of(alloc, circuit)?;
-    let pairs = Pairs {
+    let inquiry = Inquiry {
         admit: &admit,
         keep: &keep,
+        search,
     };
-    let rows = rows(rt, alloc, &mut outputs, pairs, search)?;
-    let status = ending(&rows);
+    let rows = rows(rt, alloc, &mut outputs, inquiry)?;
+    let status = ending(asks_figures(search.table), &rows);
     push_rows(&mut report, rows)?;
     Ok(Outcome {
         report,

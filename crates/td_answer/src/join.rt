@@ -7,16 +7,19 @@ ghost use Rattle.td_certificate.specs.Spelling.{HasSpelling};
 ghost use Rattle.td_join.specs.Joining.{IsJoined};
 ghost use Rattle.td_join.specs.Faults.{renamed};
 ghost use Rattle.td_answer.specs.Differences.{AsksSame};
+ghost use Rattle.td_answer.specs.Filled.{filled_join};
 ghost use Rattle.td_answer.specs.Joins.{texts_of, most_nodes, IsUnjoinedFor, IsTrueJoin, IsRefusedJoin};
 ghost use Rattle.td_answer.specs.Unjoined.{IsOfUnjoined};
 ghost use Rattle.td_answer.specs.Writing.{CanBeWritten};
 
 use crate::difference::differing;
+use crate::filled::with_text;
 use crate::gathering::parts_in;
 use crate::joined::joined;
 use crate::outcome::Outcome;
 use crate::refusal::Refusal;
 use crate::status::Status;
+use crate::texts::Texts;
 use std::alloc::Global;
 use td_certificate::Certificate;
 use td_join::{JoinFault, join_in};
@@ -111,16 +114,17 @@ fn whole_of<'n, 'w>(
 /// that is asked.
 pub(crate) fn join<'n, 'w>(
     alloc: Global,
-    text: &'n [u8],
     reading: &Reading<'_>,
     asked: &Join<'w>,
-    certificates: &[Vec<u8>],
+    texts: &Texts<'n, '_, 'w>,
 ) -> Result<Outcome, Refusal<'n, 'w>>
-    ensures says { IfOk result (IsTrueJoin text.now reading.now asked.now (texts_of certificates.now)) }
+    ensures says { IfOk result (IsTrueJoin texts.now.netlist.now reading.now (filled_join texts.now.keep asked.now) (texts_of texts.now.certificates.now)) }
     ensures written { IfOk result CanBeWritten }
-    ensures refusal { IfErr result (IsRefusedJoin text.now reading.now asked.now (texts_of certificates.now)) }
+    ensures refusal { IfErr result (IsRefusedJoin texts.now.netlist.now reading.now (filled_join texts.now.keep asked.now) (texts_of texts.now.certificates.now)) }
 {
-    let sought = question_of(alloc, text, reading, &asked.question)?;
+    let text = texts.netlist;
+    let question = with_text(&asked.question, texts.keep);
+    let sought = question_of(alloc, text, reading, &question)?;
     // For the prover: this call says that the netlist is well-formed.
     let _gates = sought.circuit.gates();
     let names = asked.parts.names();
@@ -131,7 +135,7 @@ pub(crate) fn join<'n, 'w>(
         &sought.circuit,
         asked.check,
         names,
-        certificates,
+        texts.certificates,
     )?;
     let whole = whole_of(alloc, parts, &sought, names)?;
     let report = joined(alloc, &sought.circuit, asked.check, &whole)?;

@@ -1,33 +1,39 @@
 //! The worst delay of the pairs that keep conditions.
 
-ghost use Rattle.std.specs.Prelude.{◌≡◌, ◌≤◌, ◌∷◌, ◌++◌, [], ℕ, List, length, is_some, option_map, Some, None as Nothing, IfOk, IfErr};
+ghost use Rattle.std.specs.Prelude.{◌≡◌, ◌+◌, ◌≤◌, ◌∷◌, ◌++◌, [], ℕ, true, List, length, is_some, option_map, Some, None as Nothing, IfOk, IfErr, IfSome};
 ghost use Rattle.td_circuit.specs.Numbering.{setting};
+ghost use Rattle.td_refute.specs.Kept.{IsTimedAmong, IsShownAmong as IsShownBy};
+ghost use Rattle.td_certificate.specs.Accepts.{are_fit};
 ghost use Rattle.td_certificate.specs.Lengths.{HaveFew};
 ghost use Rattle.td_certificate.specs.Spelling.{AreConditions, AreTerms};
 ghost use Rattle.td_reading.specs.declared.reading.Reading.{Reading as Read};
-ghost use Rattle.td_question.specs.Asking.{IsAsked, IsAskedKeeping, keep_words};
+ghost use Rattle.td_question.specs.Asking.{IsAsked, IsAskedKeeping, keep_quotes};
 ghost use Rattle.td_question.specs.Keeping.{AreConditions as AreConditionsOf};
 ghost use Rattle.td_source.specs.Reads.{AreOutputsOf};
-ghost use Rattle.td_worst.specs.Kept.{certificate_with, claim_of, IsKeptAnswer};
+ghost use Rattle.td_worst.specs.Kept.{asking_by, certificate_with, claim_of, IsKeptAnswer};
 ghost use Rattle.td_lines.specs.declared.line.Line.TheVariants as line;
 ghost use Rattle.td_answer.specs.Heads.{head_lines};
-ghost use Rattle.td_answer.specs.Lines.{exact_lines, between_lines, cause_line, whole_lines};
+ghost use Rattle.td_answer.specs.Lines.{exact_lines, between_lines, at_most_lines, whole_lines};
 ghost use Rattle.td_answer.specs.Runs.{RunsPair, TellsPair};
 ghost use Rattle.td_answer.specs.Dumps.{IsDumpWhere};
 ghost use Rattle.td_answer.specs.Additions.{AddsLines};
 ghost use Rattle.td_answer.specs.Kept.{IsTrueKept, IsCertifiedAmong};
 ghost use Rattle.td_answer.specs.KeptTerms.{kept_terms};
+ghost use Rattle.td_answer.specs.OpenCertificates.{IsWantedCertificate};
+ghost use Rattle.td_answer.specs.Requirements.{ending_by};
 ghost use Rattle.td_answer.specs.Searches.{IsRefusedSearch};
 ghost use Rattle.td_answer.specs.Writing.{CanBeWritten};
 ghost use Rattle.td_answer.specs.declared.status.Status.TheVariants as status;
 
-use crate::answers::{cause_line, push_between, push_exact};
+use crate::answers::{Figures, push_between, push_exact};
 use crate::beside::push_run;
 use crate::head::begun;
 use crate::joined::push_none;
 use crate::kept_certificate::{Told, kept_certificate};
+use crate::open_certificate::{Open, open_certificate};
 use crate::outcome::Outcome;
 use crate::refusal::Refusal;
+use crate::requirement::{cause_by, ending_by, push_required};
 use crate::status::Status;
 use crate::worst::{dump_of, effort_of};
 use std::alloc::{AllocError, Global};
@@ -43,7 +49,7 @@ use td_question::Asked;
 use td_reading::Reading;
 use td_request::Search;
 use td_search::Cause;
-use td_worst::KeptAnswer;
+use td_worst::{KeptAnswer, KeptQuestion};
 
 // The outcome of an exact answer.
 fn exact(
@@ -59,16 +65,16 @@ fn exact(
     requires first_fits { length best.pair.first ≡ length circuit.netlist.inputs }
     requires second_fits { length best.pair.second ≡ length circuit.netlist.inputs }
     ensures report { IfOk result (λ outcome. AddsLines (TellsPair search.now.shown (setting circuit) best.pair)
-        (head_lines circuit.netlist ++ exact_lines best.time best.pair (length tree)) outcome.report) }
+        (head_lines circuit.netlist ++ exact_lines search.now.required best.time best.pair (length tree)) outcome.report) }
     ensures certificate { IfOk result (λ outcome. outcome.certificate ≡ Some (certificate_with (setting circuit) admit (kept_terms told) (Some (claim_of best)) tree)) }
     ensures told { IfOk result (λ outcome. AreConditions told.keep.items → AreTerms (Some (kept_terms told))) }
     ensures few { IfOk result (λ outcome. length told.keep.items ≤ 5000 → HaveFew (Some (kept_terms told))) }
     ensures dumped { IfOk result (λ outcome. IsDumpWhere (is_some search.now.dump) (setting circuit) (RunsPair (setting circuit) best.pair) outcome.dump) }
-    ensures status { IfOk result (λ outcome. outcome.status ≡ status.Done) }
+    ensures status { IfOk result (λ outcome. outcome.status ≡ ending_by search.now.required status.Done best.time best.time) }
 {
     let Timed { pair, time } = best;
     let mut report = begun(alloc, &circuit)?;
-    push_exact(alloc, &mut report, time, &pair, &tree)?;
+    push_exact(alloc, &mut report, search.required, time, &pair, &tree)?;
     push_run(alloc, &mut report, &circuit, &pair, search.shown)?;
     let shown = pair.copy(alloc)?;
     let claim = Claim {
@@ -82,7 +88,7 @@ fn exact(
         report,
         certificate: Some(certificate),
         dump,
-        status: Status::Done,
+        status: ending_by(search.required, Status::Done, time, time),
         verdict: None,
     })
 }
@@ -91,48 +97,71 @@ fn exact(
 fn between(
     alloc: Global,
     circuit: Circuit,
-    best: Timed,
-    high: u64,
+    admit: Admit,
+    told: Told,
+    known: Open,
     why: Cause,
     search: &Search<'_>,
 ) -> Result<Outcome, AllocError>
-    requires first_fits { length best.pair.first ≡ length circuit.netlist.inputs }
-    requires second_fits { length best.pair.second ≡ length circuit.netlist.inputs }
-    ensures report { IfOk result (λ outcome. AddsLines (TellsPair search.now.shown (setting circuit) best.pair)
-        (head_lines circuit.netlist ++ between_lines best.time high why best.pair 0) outcome.report) }
-    ensures certificate { IfOk result (λ outcome. outcome.certificate ≡ Nothing) }
-    ensures dumped { IfOk result (λ outcome. IsDumpWhere (is_some search.now.dump) (setting circuit) (RunsPair (setting circuit) best.pair) outcome.dump) }
-    ensures status { IfOk result (λ outcome. outcome.status ≡ status.Between) }
+    requires held { length admit.held ≡ length circuit.netlist.inputs }
+    requires flips { admit.flips ≤ length admit.held }
+    requires fit { are_fit (2 + length circuit.netlist.inputs + length circuit.netlist.gates) told.keep.items ≡ true }
+    requires first_fits { length known.best.pair.first ≡ length circuit.netlist.inputs }
+    requires second_fits { length known.best.pair.second ≡ length circuit.netlist.inputs }
+    requires timed { IsTimedAmong (setting circuit) (asking_by admit told.keep.items) known.best }
+    requires ordered { known.best.time ≤ known.high }
+    requires shown { IfSome known.refuted (IsShownBy (setting circuit) (asking_by admit told.keep.items)) }
+    ensures report { IfOk result (λ outcome. AddsLines (TellsPair search.now.shown (setting circuit) known.best.pair)
+        (head_lines circuit.netlist ++ between_lines search.now.required known.best.time known.high why known.best.pair 0) outcome.report) }
+    ensures certificate { IfOk result (λ outcome. IfSome outcome.certificate (IsWantedCertificate search.now (setting circuit) admit told known.best known.high)) }
+    ensures dumped { IfOk result (λ outcome. IsDumpWhere (is_some search.now.dump) (setting circuit) (RunsPair (setting circuit) known.best.pair) outcome.dump) }
+    ensures status { IfOk result (λ outcome. outcome.status ≡ ending_by search.now.required status.Between known.best.time known.high) }
 {
-    let Timed { pair, time } = best;
+    let figures = Figures {
+        low: known.best.time,
+        high: known.high,
+        cause: why,
+    };
     let mut report = begun(alloc, &circuit)?;
-    push_between(alloc, &mut report, time, high, why, &pair, 0)?;
-    push_run(alloc, &mut report, &circuit, &pair, search.shown)?;
+    let pair = &known.best.pair;
+    push_between(alloc, &mut report, search.required, figures, pair, 0)?;
+    push_run(alloc, &mut report, &circuit, pair, search.shown)?;
+    let pair = pair.copy(alloc)?;
+    let Figures { low, high, .. } = figures;
+    let certificate = open_certificate(alloc, &circuit, admit, told, known, search);
     let dump = dump_of(alloc, circuit, &pair, search.dump.is_some())?;
     Ok(Outcome {
         report,
-        certificate: None,
+        certificate,
         dump,
-        status: Status::Between,
+        status: ending_by(search.required, Status::Between, low, high),
         verdict: None,
     })
 }
 
 // The outcome of an answer that knows no pair.
-fn at_most(alloc: Global, circuit: &Circuit, high: u64, why: Cause) -> Result<Outcome, AllocError>
-    ensures report { IfOk result (λ outcome. outcome.report ≡ head_lines circuit.now.netlist ++ line.AtMost high ∷ cause_line why ∷ []) }
+fn at_most(
+    alloc: Global,
+    circuit: &Circuit,
+    high: u64,
+    why: Cause,
+    search: &Search<'_>,
+) -> Result<Outcome, AllocError>
+    ensures report { IfOk result (λ outcome. outcome.report ≡ head_lines circuit.now.netlist ++ at_most_lines search.now.required high why) }
     ensures certificate { IfOk result (λ outcome. outcome.certificate ≡ Nothing) }
     ensures dumped { IfOk result (λ outcome. outcome.dump ≡ Nothing) }
-    ensures status { IfOk result (λ outcome. outcome.status ≡ status.Between) }
+    ensures status { IfOk result (λ outcome. outcome.status ≡ ending_by search.now.required status.Between 0 high) }
 {
+    let required = search.required;
     let mut report = begun(alloc, circuit)?;
     report.add(Line::AtMost(high))?;
-    report.add(cause_line(why))?;
+    report.add(cause_by(required, 0, high, why))?;
+    push_required(&mut report, required, 0, high)?;
     Ok(Outcome {
         report,
         certificate: None,
         dump: None,
-        status: Status::Between,
+        status: ending_by(required, Status::Between, 0, high),
         verdict: None,
     })
 }
@@ -174,13 +203,15 @@ fn outcome_of(
     answer: KeptAnswer,
     search: &Search<'_>,
 ) -> Result<Outcome, AllocError>
+    requires held { length admit.held ≡ length circuit.netlist.inputs }
     requires flips { admit.flips ≤ length admit.held }
+    requires fit { are_fit (2 + length circuit.netlist.inputs + length circuit.netlist.gates) told.keep.items ≡ true }
     requires answer { IsKeptAnswer (setting circuit) (record { admit = admit; keep = told.keep.items }) answer }
     ensures says { IfOk result (λ outcome. (text : List ℕ) (reading : Read) → IsAskedKeeping text reading search.now.question (setting circuit) (record { admit = admit; keep = told.keep.items })
         → IsTrueKept text reading search.now outcome) }
     ensures certified { IfOk result (λ outcome. (text : List ℕ) (reading : Read) → IsAskedKeeping text reading search.now.question (setting circuit) (record { admit = admit; keep = told.keep.items })
         → AreOutputsOf text reading (option_map (λ numbers. numbers.items) told.outputs) → told.default ≡ reading.default
-        → IsCertifiedAmong text reading search.now.question outcome.report outcome.certificate outcome.status) }
+        → IsCertifiedAmong text reading search.now outcome.report outcome.certificate) }
     ensures written { IfOk result CanBeWritten }
 {
     // For the prover: the circuit's numbering.
@@ -190,12 +221,22 @@ fn outcome_of(
             let closed = exact(alloc, circuit, admit, told, best, tree, search)?;
             Ok(closed)
         }
-        KeptAnswer::Between { best, high, cause } => {
-            let known = between(alloc, circuit, best, high, cause, search)?;
-            Ok(known)
+        KeptAnswer::Between {
+            best,
+            high,
+            cause,
+            refuted,
+        } => {
+            let known = Open {
+                best,
+                high,
+                refuted,
+            };
+            let lying = between(alloc, circuit, admit, told, known, cause, search)?;
+            Ok(lying)
         }
         KeptAnswer::Open { high, cause } => {
-            let bounded = at_most(alloc, &circuit, high, cause)?;
+            let bounded = at_most(alloc, &circuit, high, cause, search)?;
             Ok(bounded)
         }
         KeptAnswer::NoPair { tree } => {
@@ -216,9 +257,9 @@ pub(crate) fn worst_kept<'n, 'w, R: Threads + Wait + Clock + Sync>(
 ) -> Result<Outcome, Refusal<'n, 'w>>
     requires asked { IsAsked text.now reading.now search.now.question (setting asked.circuit) asked.admit }
     requires outputs { AreOutputsOf text.now reading.now (option_map (λ numbers. numbers.items) asked.outputs) }
-    requires keep { AreConditionsOf asked.circuit.netlist (keep_words search.now.question.inputs) asked.keep.items }
+    requires keep { AreConditionsOf asked.circuit.netlist (keep_quotes search.now.question) asked.keep.items }
     ensures says { IfOk result (IsTrueKept text.now reading.now search.now) }
-    ensures certified { IfOk result (λ outcome. IsCertifiedAmong text.now reading.now search.now.question outcome.report outcome.certificate outcome.status) }
+    ensures certified { IfOk result (λ outcome. IsCertifiedAmong text.now reading.now search.now outcome.report outcome.certificate) }
     ensures written { IfOk result CanBeWritten }
     ensures refusal { IfErr result (IsRefusedSearch text.now reading.now search.now) }
 {
@@ -230,7 +271,13 @@ pub(crate) fn worst_kept<'n, 'w, R: Threads + Wait + Clock + Sync>(
         ..
     } = asked;
     let effort = effort_of(&search.effort);
-    let answer = td_worst::worst_kept(rt, alloc, &circuit, &admit, &keep, effort)?;
+    let question = KeptQuestion {
+        circuit: &circuit,
+        admit: &admit,
+        keep: &keep,
+        required: search.required,
+    };
+    let answer = td_worst::worst_kept(rt, alloc, question, effort)?;
     let told = Told {
         default: reading.default,
         outputs,

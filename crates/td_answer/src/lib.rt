@@ -5,17 +5,22 @@
 //! The sentences at the top are the contract of `answer`.
 #![tactic(auto)]
 
+mod alone;
 mod answering;
 mod answers;
 mod beside;
 mod bound;
 mod certifying;
+mod changes;
 mod check;
 mod claims;
 mod conditions;
 mod difference;
 mod each;
+mod earliest;
+mod filled;
 mod gathering;
+mod hazards;
 mod head;
 mod info;
 mod join;
@@ -23,11 +28,13 @@ mod joined;
 mod kept;
 mod kept_certificate;
 mod names;
+mod open_certificate;
 mod outcome;
 mod parts;
 mod path;
 mod pins;
 mod refusal;
+mod requirement;
 mod runs;
 mod sentence;
 mod sim;

@@ -3,7 +3,7 @@
 ghost use Rattle.std.specs.Prelude.{◌≡◌, ◌∷◌, ◌++◌, [], map, codes, decimal, IfOk, IfErr, OnOk, None as Nothing};
 ghost use Rattle.std.specs.List.{flat_map};
 ghost use Rattle.td_inputs.specs.Placings.{words_by_place, text_of};
-ghost use Rattle.td_answer.specs.Parts.{given_words, flips_words, default_words, pins_words, question_words, keep_option, output_words, reading_words, part_words, HasParts, IsTrueParts, IsRefusedParts};
+ghost use Rattle.td_answer.specs.Parts.{given_words, flips_words, default_words, pins_words, question_words, keep_option, condition_words, output_words, reading_words, part_words, HasParts, IsTrueParts, IsRefusedParts};
 ghost use Rattle.td_answer.specs.Writing.{CanBeWritten};
 
 use crate::outcome::Outcome;
@@ -28,6 +28,8 @@ struct Said<'a> {
     flips: Option<u64>,
     /// The words of conditions.
     keep: &'a [&'a [u8]],
+    /// The file of conditions.
+    keep_file: Option<&'a str>,
 }
 
 /// Appends a word.
@@ -149,6 +151,19 @@ fn push_keep(alloc: Global, words: &mut Vec<Label>, keep: &[&[u8]]) -> Result<()
     Ok(())
 }
 
+/// Appends the options of conditions, and that of a file of them.
+fn push_conditions(
+    alloc: Global,
+    words: &mut Vec<Label>,
+    keep: &[&[u8]],
+    file: Option<&str>,
+) -> Result<(), AllocError>
+    ensures { OnOk result (words.new.items ≡ words.old.items ++ condition_words (map (λ word. word.now) keep.now) (text_of file.entry)) }
+{
+    push_keep(alloc, words, keep)?;
+    push_given(alloc, words, "--keep-file", file)
+}
+
 /// Appends the option of each output that is asked about.
 fn push_outputs(alloc: Global, words: &mut Vec<Label>, names: &[&str]) -> Result<(), AllocError>
     ensures { OnOk result (words.new.items ≡ words.old.items ++ flat_map output_words names.now) }
@@ -179,12 +194,12 @@ fn part_of(
     said: Said<'_>,
     reading: &Reading<'_>,
 ) -> Result<Part, AllocError>
-    ensures { IfOk result (λ part. part.words.items ≡ part_words reading.now (words_by_place said.entry.placed.now) said.entry.flips (map (λ word. word.now) said.entry.keep.now) cube.now) }
+    ensures { IfOk result (λ part. part.words.items ≡ part_words reading.now (words_by_place said.entry.placed.now) said.entry.flips (map (λ word. word.now) said.entry.keep.now) (text_of said.entry.keep_file) cube.now) }
 {
     let mut words = Vec::new(alloc);
     push_pins(alloc, &mut words, cube)?;
     push_question(alloc, &mut words, said.placed, said.flips)?;
-    push_keep(alloc, &mut words, said.keep)?;
+    push_conditions(alloc, &mut words, said.keep, said.keep_file)?;
     push_reading(alloc, &mut words, reading)?;
     Ok(Part { words })
 }
@@ -196,7 +211,7 @@ fn line_of(
     said: Said<'_>,
     reading: &Reading<'_>,
 ) -> Result<Line, AllocError>
-    ensures { IfOk result (HasParts (map (part_words reading.now (words_by_place said.entry.placed.now) said.entry.flips (map (λ word. word.now) said.entry.keep.now)) cubes.now)) }
+    ensures { IfOk result (HasParts (map (part_words reading.now (words_by_place said.entry.placed.now) said.entry.flips (map (λ word. word.now) said.entry.keep.now) (text_of said.entry.keep_file)) cubes.now)) }
 {
     let mut parts = Vec::new(alloc);
     for cube in cubes {
@@ -242,6 +257,7 @@ pub(crate) fn parts<'n, 'w>(
         placed: &about.words,
         flips: asked.question.flips,
         keep: &keep,
+        keep_file: asked.question.keep_file,
     };
     let line = line_of(alloc, &cubes, said, reading)?;
     let report = report_of(alloc, line)?;

@@ -105,6 +105,7 @@ fn question_status(fault: &QuestionFault<'_, '_>) -> Status
         QuestionFault::BadVector(_) => Status::BadCommand,
         QuestionFault::BadKeep(_) => Status::BadCommand,
         QuestionFault::NoNet(_) => Status::BadCommand,
+        QuestionFault::LongKeepFile => Status::Refused,
     }
 }
 

@@ -63,8 +63,9 @@ fn question(out: &mut Text, fault: &QuestionFault<'_, '_>) -> Result<(), AllocEr
         QuestionFault::Source(fault) => source(out, fault),
         QuestionFault::BadName(fault, labels) => words::name(out, *fault, labels),
         QuestionFault::BadVector(word) => words::vector(out, *word),
-        QuestionFault::BadKeep(word) => words::bad_keep(out, word),
-        QuestionFault::NoNet(name) => words::no_net(out, name),
+        QuestionFault::BadKeep(quote) => words::bad_keep(out, *quote),
+        QuestionFault::NoNet(name) => words::no_net(out, *name),
+        QuestionFault::LongKeepFile => out.push(b"keep file too long"),
     }
 }
 

@@ -18,6 +18,8 @@ pub enum Status {
     Rejected,
     /// A device failed, or memory ran out.
     Device,
+    /// A pair is later than the required moment.
+    Violated,
 }
 
 impl Status {
@@ -32,6 +34,7 @@ impl Status {
             Status::Between => 3,
             Status::Rejected => 4,
             Status::Device => 5,
+            Status::Violated => 6,
         }
     }
 }

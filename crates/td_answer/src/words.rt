@@ -3,11 +3,12 @@
 ghost use Rattle.std.specs.Prelude.{◌≡◌, ◌++◌, map, slice_get, OnOk};
 ghost use Rattle.td_inputs.specs.Labels.{label_in};
 ghost use Rattle.td_inputs.specs.Readings.{fault_in};
-ghost use Rattle.td_answer.specs.Refusals.{vector_word, called, bad_text, bad_keep_text, no_input_text, no_net_text, clash_text, input_text, word_text};
+ghost use Rattle.td_answer.specs.Refusals.{vector_word, called, at_line_text, bad_text, bad_keep_text, quote_text, no_input_text, no_net_text, clash_text, input_text, word_text};
 
 use std::alloc::AllocError;
 use td_inputs::{Label, Topic, WordFault};
 use td_lines::Text;
+use td_question::Quote;
 use td_question::vector::VectorWord;
 
 /// The word that gives nothing for the inputs, as the usage of the command names it.
@@ -70,20 +71,38 @@ fn clash(out: &mut Text, topic: Topic, word: &[u8], input: &[u8]) -> Result<(), 
     out.push(input)
 }
 
-/// That a word is no condition.
-pub(crate) fn bad_keep(out: &mut Text, word: &[u8]) -> Result<(), AllocError>
-    ensures { OnOk result (out.new ≡ out.old ++ bad_keep_text word.now) }
+/// The line of a file, where it is of one.
+fn at_line(out: &mut Text, line: Option<u64>) -> Result<(), AllocError>
+    ensures { OnOk result (out.new ≡ out.old ++ at_line_text line) }
+{
+    match line {
+        None => Ok(()),
+        Some(line) => out.number_behind(b" at line ", line),
+    }
+}
+
+/// A text that a request has, and the line of a file.
+fn quote(out: &mut Text, quote: Quote<'_>) -> Result<(), AllocError>
+    ensures { OnOk result (out.new ≡ out.old ++ quote_text quote.entry) }
+{
+    out.push(quote.text)?;
+    at_line(out, quote.line)
+}
+
+/// That a word or a line is no condition.
+pub(crate) fn bad_keep(out: &mut Text, told: Quote<'_>) -> Result<(), AllocError>
+    ensures { OnOk result (out.new ≡ out.old ++ bad_keep_text told.entry) }
 {
     out.push(b"bad keep ")?;
-    out.push(word)
+    quote(out, told)
 }
 
 /// That a condition names no net.
-pub(crate) fn no_net(out: &mut Text, name: &[u8]) -> Result<(), AllocError>
-    ensures { OnOk result (out.new ≡ out.old ++ no_net_text name.now) }
+pub(crate) fn no_net(out: &mut Text, name: Quote<'_>) -> Result<(), AllocError>
+    ensures { OnOk result (out.new ≡ out.old ++ no_net_text name.entry) }
 {
     out.push(b"no net ")?;
-    out.push(name)
+    quote(out, name)
 }
 
 /// What is wrong with a word by name, for inputs that are called so.

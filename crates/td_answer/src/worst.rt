@@ -1,9 +1,11 @@
 //! The worst delay.
 
-ghost use Rattle.std.specs.Prelude.{◌≡◌, ◌≤◌, ◌++◌, ◌⊎◌, length, is_some, IfOk, IfErr};
+ghost use Rattle.std.specs.Prelude.{◌≡◌, ◌≤◌, ◌++◌, ◌⊎◌, [], length, is_some, IfOk, IfErr, IfSome};
 ghost use Rattle.td_circuit.specs.Numbering.{setting};
-ghost use Rattle.td_search.specs.Problems.{Problem, problem_by};
-ghost use Rattle.td_worst.specs.Methods.{tree_of};
+ghost use Rattle.td_refute.specs.Answers.{IsShown};
+ghost use Rattle.td_search.specs.Answers.{low_of};
+ghost use Rattle.td_search.specs.Problems.{Problem, problem_by, has_delay};
+ghost use Rattle.td_worst.specs.Methods.{tree_of, high_of};
 ghost use Rattle.td_question.specs.Asking.{IsAsked};
 ghost use Rattle.td_answer.specs.Methods.{method_of, seconds_of};
 ghost use Rattle.td_answer.specs.Heads.{head_lines};
@@ -11,7 +13,7 @@ ghost use Rattle.td_answer.specs.Lines.{answer_lines, ending_of, pair_in};
 ghost use Rattle.td_answer.specs.Runs.{RunsPair, TellsPair};
 ghost use Rattle.td_answer.specs.Dumps.{IsDumpWhere};
 ghost use Rattle.td_answer.specs.Additions.{AddsLines};
-ghost use Rattle.td_answer.specs.Certificates.{read_by, certificate_in, CanBeTold};
+ghost use Rattle.td_answer.specs.OpenCertificates.{IsCertificateOf, told_with};
 ghost use Rattle.td_answer.specs.Conditions.{IsTrueSearch, IsCertifiedFor};
 ghost use Rattle.td_answer.specs.Searches.{IsRefusedSearch};
 ghost use Rattle.td_answer.specs.Writing.{CanBeWritten};
@@ -20,6 +22,8 @@ use crate::answers::{ending_of, pair_in, report_of};
 use crate::beside::push_run;
 use crate::certifying::{Read, certificate};
 use crate::kept::worst_kept;
+use crate::kept_certificate::Told;
+use crate::open_certificate::{Open, open_certificate};
 use crate::outcome::{Outcome, Waves};
 use crate::refusal::Refusal;
 use crate::runs::run_of;
@@ -27,17 +31,18 @@ use std::alloc::{AllocError, Global};
 use std::sync::Wait;
 use std::thread::Threads;
 use std::time::Clock;
-use td_certificate::Question;
+use td_certificate::{Certificate, Question};
 use td_circuit::Circuit;
-use td_domain::Pair;
+use td_domain::{Admit, Pair};
 use td_gates::Delay;
+use td_lead::Timed;
 use td_lines::Report;
 use td_pool::{Effort, Watch};
 use td_question::{Asked, question_of};
 use td_reading::Reading;
-use td_request::{Search, Shown};
+use td_request::Search;
 use td_search::{Answer, Strategy};
-use td_worst::{Method, TimedEffort};
+use td_worst::{Found, Method, TimedEffort};
 
 /// The means of a strategy.
 pub(crate) fn method_of(strategy: td_request::Strategy) -> Method
@@ -99,15 +104,73 @@ fn reported(
     alloc: Global,
     circuit: &Circuit,
     answer: &Answer,
-    shown: Shown,
+    search: &Search<'_>,
 ) -> Result<Report, AllocError>
     requires first_fits { length (pair_in answer.now).first ≡ length circuit.now.netlist.inputs }
     requires second_fits { length (pair_in answer.now).second ≡ length circuit.now.netlist.inputs }
-    ensures { IfOk result (AddsLines (TellsPair shown (setting circuit.now) (pair_in answer.now)) (head_lines circuit.now.netlist ++ answer_lines answer.now)) }
+    ensures { IfOk result (AddsLines (TellsPair search.now.shown (setting circuit.now) (pair_in answer.now)) (head_lines circuit.now.netlist ++ answer_lines search.now.required answer.now)) }
 {
-    let mut report = report_of(alloc, circuit, answer)?;
-    push_run(alloc, &mut report, circuit, pair_in(answer), shown)?;
+    let mut report = report_of(alloc, circuit, search.required, answer)?;
+    push_run(alloc, &mut report, circuit, pair_in(answer), search.shown)?;
     Ok(report)
+}
+
+/// How a netlist was read, and what pairs keep, as a certificate tells it; and which certificate of an
+/// exact answer does so.
+struct Telling {
+    told: Told,
+    strategy: Strategy,
+}
+
+/// The certificate of an answer, if it has one. The error is out of memory.
+fn certificate_of(
+    alloc: Global,
+    circuit: &Circuit,
+    admit: Admit,
+    telling: Telling,
+    found: Found,
+    search: &Search<'_>,
+) -> Result<Option<Certificate>, AllocError>
+    requires held { length admit.held ≡ length circuit.now.netlist.inputs }
+    requires flips { admit.flips ≤ length admit.held }
+    requires bare { telling.told.keep.items ≡ [] }
+    requires has { has_delay (problem_by telling.strategy circuit.now admit) (pair_in found.answer) (low_of found.answer) }
+    requires ordered { low_of found.answer ≤ high_of found.answer }
+    requires shown { IfSome found.refuted (IsShown (setting circuit.now) admit) }
+    ensures { IfOk result (IsCertificateOf telling.told (problem_by telling.strategy circuit.now admit) search.now found.answer) }
+{
+    let Telling { told, strategy } = telling;
+    let Found { answer, refuted } = found;
+    match answer {
+        Answer::Exact { time, pair, tree } => {
+            let moments = Vec::from_slice(alloc, circuit.moments())?;
+            let question = Question::new(admit, moments);
+            let Told {
+                default,
+                outputs,
+                ..
+            } = told;
+            let read = Read { default, outputs };
+            let answer = Answer::Exact { time, pair, tree };
+            let kept = certificate(alloc, circuit, question, read, strategy, answer)?;
+            Ok(kept)
+        }
+        Answer::Between {
+            low,
+            high,
+            pair,
+            ..
+        } => {
+            let best = Timed { pair, time: low };
+            let open = Open {
+                best,
+                high,
+                refuted,
+            };
+            let kept = open_certificate(alloc, circuit, admit, told, open, search);
+            Ok(kept)
+        }
+    }
 }
 
 /// What is shown and kept of an answer to what is asked.
@@ -116,33 +179,42 @@ fn outcome_of(
     asked: Asked,
     default: Delay,
     strategy: Strategy,
-    answer: Answer,
+    found: Found,
     search: &Search<'_>,
 ) -> Result<Outcome, AllocError>
+    requires held { length asked.admit.held ≡ length asked.circuit.netlist.inputs }
     requires flips { asked.admit.flips ≤ length asked.admit.held }
-    requires first_fits { length (pair_in answer).first ≡ length asked.circuit.netlist.inputs }
-    requires second_fits { length (pair_in answer).second ≡ length asked.circuit.netlist.inputs }
-    ensures report { IfOk result (λ outcome. AddsLines (TellsPair search.now.shown (setting asked.circuit) (pair_in answer))
-        (head_lines asked.circuit.netlist ++ answer_lines answer) outcome.report) }
-    ensures certified { IfOk result (λ outcome. outcome.certificate ≡ certificate_in (read_by default asked.outputs) (problem_by strategy asked.circuit asked.admit) answer) }
-    ensures told { IfOk result (λ outcome. CanBeTold (read_by default asked.outputs) strategy answer) }
+    requires bare { asked.keep.items ≡ [] }
+    requires first_fits { length (pair_in found.answer).first ≡ length asked.circuit.netlist.inputs }
+    requires second_fits { length (pair_in found.answer).second ≡ length asked.circuit.netlist.inputs }
+    requires has { has_delay (problem_by strategy asked.circuit asked.admit) (pair_in found.answer) (low_of found.answer) }
+    requires ordered { low_of found.answer ≤ high_of found.answer }
+    requires shown { IfSome found.refuted (IsShown (setting asked.circuit) asked.admit) }
+    ensures report { IfOk result (λ outcome. AddsLines (TellsPair search.now.shown (setting asked.circuit) (pair_in found.answer))
+        (head_lines asked.circuit.netlist ++ answer_lines search.now.required found.answer) outcome.report) }
+    ensures certified { IfOk result (λ outcome. IsCertificateOf (told_with default asked.outputs asked.keep) (problem_by strategy asked.circuit asked.admit) search.now
+        found.answer outcome.certificate) }
     ensures dumped { IfOk result (λ outcome. IsDumpWhere (is_some search.now.dump) (setting asked.circuit)
-        (RunsPair (setting asked.circuit) (pair_in answer)) outcome.dump) }
-    ensures status { IfOk result (λ outcome. outcome.status ≡ ending_of answer) }
+        (RunsPair (setting asked.circuit) (pair_in found.answer)) outcome.dump) }
+    ensures status { IfOk result (λ outcome. outcome.status ≡ ending_of search.now.required found.answer) }
 {
     let Asked {
         circuit,
         admit,
         outputs,
+        keep,
         ..
     } = asked;
-    let report = reported(alloc, &circuit, &answer, search.shown)?;
-    let status = ending_of(&answer);
-    let pair = pair_in(&answer).copy(alloc)?;
-    let moments = Vec::from_slice(alloc, circuit.moments())?;
-    let question = Question::new(admit, moments);
-    let read = Read { default, outputs };
-    let certificate = certificate(alloc, &circuit, question, read, strategy, answer)?;
+    let report = reported(alloc, &circuit, &found.answer, search)?;
+    let status = ending_of(search.required, &found.answer);
+    let pair = pair_in(&found.answer).copy(alloc)?;
+    let told = Told {
+        default,
+        outputs,
+        keep,
+    };
+    let telling = Telling { told, strategy };
+    let certificate = certificate_of(alloc, &circuit, admit, telling, found, search)?;
     let dump = dump_of(alloc, circuit, &pair, search.dump.is_some())?;
     Ok(Outcome {
         report,
@@ -163,7 +235,7 @@ pub(crate) fn worst<'n, 'w, W: Watch, R: Threads + Wait + Clock + Sync>(
     watch: &mut W,
 ) -> Result<Outcome, Refusal<'n, 'w>>
     ensures says { IfOk result (IsTrueSearch text.now reading.now search.now) }
-    ensures certified { IfOk result (λ outcome. IsCertifiedFor text.now reading.now search.now.question outcome.report outcome.certificate outcome.status) }
+    ensures certified { IfOk result (λ outcome. IsCertifiedFor text.now reading.now search.now outcome.report outcome.certificate) }
     ensures written { IfOk result CanBeWritten }
     ensures refusal { IfErr result (IsRefusedSearch text.now reading.now search.now) }
     ensures reported { (watch.new ≡ watch.old)
@@ -175,21 +247,19 @@ pub(crate) fn worst<'n, 'w, W: Watch, R: Threads + Wait + Clock + Sync>(
     }
     let method = method_of(search.strategy);
     let effort = effort_of(&search.effort);
-    let answer = td_worst::worst(
-        rt,
-        alloc,
-        &asked.circuit,
-        &asked.admit,
+    let question = td_worst::Question {
+        circuit: &asked.circuit,
+        admit: &asked.admit,
         method,
-        effort,
-        watch,
-    )?;
+        required: search.required,
+    };
+    let found = td_worst::worst(rt, alloc, question, effort, watch)?;
     let outcome = outcome_of(
         alloc,
         asked,
         reading.default,
         method.strategy(),
-        answer,
+        found,
         search,
     )?;
     Ok(outcome)

@@ -1,6 +1,5 @@
 -- How the program ends.
 use Rattle.std.proofs.Common.{◌≡◌, ◌≢◌, ◌⊎◌, ◌∙◌, ℕ, List, Option, Some, None, refl, sym, ap, subst, inl, inr}
-use Rattle.std.specs.Global.{Vec}
 use Rattle.clap.specs.Words.{kind_of}
 use Rattle.clap.specs.declared.error.Error.{Error}
 use Rattle.clap.specs.declared.error.kind.ErrorKind.TheVariants as kind
@@ -16,11 +15,14 @@ use Rattle.td_answer.specs.declared.outcome.Outcome.{Outcome}
 use Rattle.td_answer.specs.declared.refusal.Refusal.{Refusal}
 use Rattle.td_answer.specs.declared.status.Status.{Status}
 use Rattle.td_answer.specs.declared.status.Status.TheVariants as status
-use Rattle.td_answer.specs.Outcomes.{SaysTrue, IsRefusedBy}
+use Rattle.td_answer.specs.declared.texts.Texts.{Texts}
+use Rattle.td_answer.specs.Outcomes.{IsTrueOutcome, IsRefused}
 use Rattle.td_answer.specs.Statuses.{status_of}
 use Rattle.td_cli.specs.declared.fault.Fault.{Fault}
 use Rattle.td_cli.specs.declared.fault.Fault.TheVariants as fault
-use Rattle.td_cli.specs.Carrying.{Holds, Prints, Carries, IsEndWithout}
+use Rattle.td_cli.specs.declared.bytes.Bytes.{Bytes}
+use Rattle.td_cli.specs.Carrying.{Prints, Carries, IsEndWithout}
+use Rattle.td_cli.specs.Reading.{AreBytes, AreTexts}
 use Rattle.td_cli.specs.Clashes.{IsFaultOf, IsOneFile, KeepsFiles, Overwrites, fault_status}
 use Rattle.td_cli.specs.Ends.{AreBad, Ends, Refuses, Shows, ShowsText, TellsFault}
 
@@ -61,25 +63,40 @@ pub stopped : (disk : Disk) (request : Request) (found : Fault) (ending : Status
 stopped disk request found ending old new is silent (inl same) = inr (silent, ended_by disk request found ending is same)
 stopped disk request found ending old new is silent (inr so) = inr (silent, inl so)
 
+-- the texts of bytes that the files hold
+pub texts_held : (holds : List ℕ → List ℕ → Type 0) (request : Request) (bytes : Bytes) (texts : Texts) → AreBytes holds request bytes
+    → texts.netlist.now ≡ bytes.netlist.items → texts.certificates.now ≡ bytes.certificates.items
+    → texts.keep ≡ bytes.keep → AreTexts holds request texts
+texts_held holds request bytes texts held netlist certificates keep = rw (netlist, certificates, keep) held
+
 -- or since there is this reason
-pub refused : (disk : Disk) (request : Request) (netlist : List ℕ) (certificates : List (Vec ℕ)) (reason : Refusal) (ending : Status) (old new : Output)
-    → Holds disk.holds request netlist certificates → IsRefusedBy request.command netlist request.reading certificates reason → new ≡ old
+pub refused : (disk : Disk) (request : Request) (texts : Texts) (reason : Refusal) (ending : Status) (old new : Output)
+    → AreTexts disk.holds request texts → IsRefused request texts reason → new ≡ old
     → (ending ≡ status_of reason) ⊎ (ending ≡ status.Device) → Carries disk request ending old new
-refused disk request netlist certificates reason ending old new held is silent (inl same) = inr (
+refused disk request texts reason ending old new held is silent (inl same) = inr (
   silent,
-  inr (inr (record { netlist = netlist; certificates = certificates; held = held; reason = reason; is = is; ends = same })),
+  inr (inr (record {
+    netlist = texts.netlist.now;
+    certificates = texts.certificates.now;
+    keep = texts.keep;
+    held = held;
+    reason = reason;
+    is = is;
+    ends = same;
+  })),
 )
-refused disk request netlist certificates reason ending old new held is silent (inr so) = inr (silent, inl so)
+refused disk request texts reason ending old new held is silent (inr so) = inr (silent, inl so)
 
 -- an outcome that is true of what was read was printed
-pub carried : (disk : Disk) (request : Request) (netlist : List ℕ) (certificates : List (Vec ℕ)) (outcome : Outcome) (ending : Status) (old new : Output)
-    → conflict_of request ≡ None → KeepsFiles disk request → Holds disk.holds request netlist certificates
-    → SaysTrue request.command netlist request.reading certificates outcome → Prints request outcome ending old new → Carries disk request ending old new
-carried disk request netlist certificates outcome ending old new alone apart held says prints = inl (record {
+pub carried : (disk : Disk) (request : Request) (texts : Texts) (outcome : Outcome) (ending : Status) (old new : Output)
+    → conflict_of request ≡ None → KeepsFiles disk request → AreTexts disk.holds request texts
+    → IsTrueOutcome request texts outcome → Prints request outcome ending old new → Carries disk request ending old new
+carried disk request texts outcome ending old new alone apart held says prints = inl (record {
   apart = apart;
   alone = alone;
-  netlist = netlist;
-  certificates = certificates;
+  netlist = texts.netlist.now;
+  certificates = texts.certificates.now;
+  keep = texts.keep;
   held = held;
   outcome = outcome;
   is_true = says;

@@ -1,5 +1,5 @@
 -- What a request does to standard output.
-use Rattle.std.specs.Prelude.{◌≡◌, ◌⊎◌, ℕ, List, [], ◌∷◌, codes, Bool, true, false, ◌||◌, take, Option, Some, None}
+use Rattle.std.specs.Prelude.{◌≡◌, ◌⊎◌, ℕ, List, [], ◌∷◌, codes, Bool, true, false, ◌||◌, take, Option, Some, None, option_map}
 use Rattle.std.specs.List.{AllZip}
 use Rattle.std.specs.Borrow.{Bor}
 use Rattle.std.specs.Global.{Vec}
@@ -18,11 +18,12 @@ use Rattle.td_answer.specs.declared.outcome.Outcome.{Outcome}
 use Rattle.td_answer.specs.declared.status.Status.{Status}
 use Rattle.td_answer.specs.declared.status.Status.TheVariants as status
 use Rattle.td_answer.specs.declared.refusal.Refusal.{Refusal}
+use Rattle.td_answer.specs.Filled.{filled}
 use Rattle.td_answer.specs.Outcomes.{SaysTrue, IsRefusedBy}
 use Rattle.td_answer.specs.Statuses.{status_of}
 use Rattle.td_command.specs.Conflicts.{conflict_of}
 use Rattle.td_cli.specs.Clashes.{HasClash, KeepsFiles}
-use Rattle.td_cli.specs.Files.{outputs_of, certificate_names}
+use Rattle.td_cli.specs.Files.{outputs_of, certificate_names, keep_file}
 
 -- a report in its form
 abbrev pub print_of : Form → List Line → List ℕ
@@ -53,10 +54,17 @@ pub record Prints (request : Request) (outcome : Outcome) (ending : Status) (old
 abbrev pub AreHeld : (List ℕ → List ℕ → Type 0) → List (List ℕ) → List (Vec ℕ) → Type 0
 AreHeld holds names texts = (count : ℕ) × AllZip (λ name (text : Vec ℕ). holds name text.items) (take count names) texts
 
+-- the file of this name, where there is one, holds this text
+abbrev pub IsHeldWhere : (List ℕ → List ℕ → Type 0) → Option (Bor (List ℕ)) → Option (List ℕ) → Type 0
+IsHeldWhere holds None None = Unit {0}
+IsHeldWhere holds (Some name) (Some text) = holds name.now text
+IsHeldWhere holds name text = ⊥
+
 -- the texts of the files that a request names; of certificates there may be fewer
-pub record Holds (holds : List ℕ → List ℕ → Type 0) (request : Request) (netlist : List ℕ) (certificates : List (Vec ℕ)) : Type 0 where
+pub record Holds (holds : List ℕ → List ℕ → Type 0) (request : Request) (netlist : List ℕ) (certificates : List (Vec ℕ)) (keep : Option (List ℕ)) : Type 0 where
   pub file : holds request.file.now netlist
   pub others : AreHeld holds (certificate_names request.command) certificates
+  pub conditions : IsHeldWhere holds (keep_file request.command) keep
 
 -- an outcome that is true of what the files hold was printed, and no file that the request writes is
 -- another one of it
@@ -65,9 +73,10 @@ pub record PrintsTrue (disk : Disk) (request : Request) (ending : Status) (old n
   pub alone : conflict_of request ≡ None
   pub netlist : List ℕ
   pub certificates : List (Vec ℕ)
-  pub held : Holds disk.holds request netlist certificates
+  pub keep : Option (Bor (List ℕ))
+  pub held : Holds disk.holds request netlist certificates (option_map (λ text. text.now) keep)
   pub outcome : Outcome
-  pub is_true : SaysTrue request.command netlist request.reading certificates outcome
+  pub is_true : SaysTrue (filled keep request.command) netlist request.reading certificates outcome
   pub prints : Prints request outcome ending old new
 
 -- a reason that holds of what the files hold that the request names; the program ends with its
@@ -75,9 +84,10 @@ pub record PrintsTrue (disk : Disk) (request : Request) (ending : Status) (old n
 pub record HasReason (holds : List ℕ → List ℕ → Type 0) (request : Request) (ending : Status) : Type 0 where
   pub netlist : List ℕ
   pub certificates : List (Vec ℕ)
-  pub held : Holds holds request netlist certificates
+  pub keep : Option (Bor (List ℕ))
+  pub held : Holds holds request netlist certificates (option_map (λ text. text.now) keep)
   pub reason : Refusal
-  pub is : IsRefusedBy request.command netlist request.reading certificates reason
+  pub is : IsRefusedBy (filled keep request.command) netlist request.reading certificates reason
   pub ends : ending ≡ status_of reason
 
 -- Why there is no outcome, by the status: a device failed, or memory ran out; or options or files of

@@ -8,7 +8,7 @@ use Rattle.td_request.specs.declared.request.Request.{Request}
 use Rattle.td_command.specs.Conflicts.{conflict_of}
 use Rattle.td_answer.specs.declared.status.Status.{Status}
 use Rattle.td_answer.specs.declared.status.Status.TheVariants as status
-use Rattle.td_cli.specs.Files.{outputs_of, part_names}
+use Rattle.td_cli.specs.Files.{keep_file, outputs_of, part_names}
 use Rattle.td_cli.specs.declared.fault.Fault.{Fault}
 use Rattle.td_cli.specs.declared.fault.Fault.TheVariants as fault
 
@@ -30,14 +30,20 @@ abbrev pub word_of : Option (Bor (List ℕ)) → Option (List ℕ)
 word_of None = None
 word_of (Some word) = Some word.now
 
+-- the file that is written, where there is one, is the one that is read, where there is one
+abbrev pub IsOverAny : Disk → Option (Bor (List ℕ)) → Option (Bor (List ℕ)) → Type 0
+IsOverAny disk out None = ⊥
+IsOverAny disk out (Some name) = IsOverRead disk out name.now
+
 -- a file that the request would write is one that it reads, or another one that it would write
 abbrev pub Overwrites : Disk → Request → Type 0
 Overwrites disk request =
     let outputs = outputs_of request.command in
     IsOverRead disk outputs.certificate request.file.now
     ⊎ (IsOverRead disk outputs.dump request.file.now
+    ⊎ ((IsOverAny disk outputs.certificate (keep_file request.command) ⊎ IsOverAny disk outputs.dump (keep_file request.command))
     ⊎ (((name : List ℕ) × Contains (part_names request.command) name × IsOverRead disk outputs.certificate name)
-    ⊎ AreOne disk outputs.dump (word_of outputs.certificate)))
+    ⊎ AreOne disk outputs.dump (word_of outputs.certificate))))
 
 -- the files that are written of these two names, where there are both, are two
 abbrev pub AreApart : Disk → Option (Bor (List ℕ)) → Option (List ℕ) → Type 0
@@ -48,10 +54,17 @@ AreApart disk out file = ⊤
 abbrev pub KeepsRead : Disk → Option (Bor (List ℕ)) → List ℕ → Type 0
 KeepsRead disk out name = AreApart disk out (Some (read_name name))
 
+-- the file that is written, where there is one, isn't the one that is read, where there is one
+abbrev pub KeepsAny : Disk → Option (Bor (List ℕ)) → Option (Bor (List ℕ)) → Type 0
+KeepsAny disk out None = ⊤
+KeepsAny disk out (Some name) = KeepsRead disk out name.now
+
 -- no file that the request would write is one that it reads, or another one that it would write
 pub record KeepsFiles (disk : Disk) (request : Request) : Type 0 where
   pub netlist : KeepsRead disk (outputs_of request.command).certificate request.file.now
   pub netlist_by_dump : KeepsRead disk (outputs_of request.command).dump request.file.now
+  pub conditions : KeepsAny disk (outputs_of request.command).certificate (keep_file request.command)
+  pub conditions_by_dump : KeepsAny disk (outputs_of request.command).dump (keep_file request.command)
   pub parts : All (KeepsRead disk (outputs_of request.command).certificate) (part_names request.command)
   pub certificate : AreApart disk (outputs_of request.command).dump (word_of (outputs_of request.command).certificate)
 

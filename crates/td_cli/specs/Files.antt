@@ -22,3 +22,10 @@ abbrev pub certificate_names : Command → List (List ℕ)
 certificate_names (command.Check asked) = asked.certificate.now ∷ []
 certificate_names (command.Join asked) = asked.parts
 certificate_names other = []
+
+-- the file of conditions that a command reads
+abbrev pub keep_file : Command → Option (Bor (List ℕ))
+keep_file (command.Worst search) = search.question.keep_file
+keep_file (command.Parts asked) = asked.question.keep_file
+keep_file (command.Join asked) = asked.question.keep_file
+keep_file other = None

@@ -1,4 +1,5 @@
 pub mod Carrying
+pub mod Reading
 pub mod Clashes
 pub mod Ends
 pub mod Files

@@ -5,10 +5,15 @@ use std::alloc::AllocError;
 use td_lines::Text;
 use td_request::{Effort, MOST_NODES, Search, Strategy};
 
-/// Appends that a search was cut short, or one of those for each output, and how it goes on.
-pub(crate) fn cut_short(text: &mut Text, search: &Search<'_>) -> Result<(), AllocError> {
+/// Appends that a search was cut short, or one of those for each output, and how it goes on; and that
+/// no certificate was written, where one was asked for.
+pub(crate) fn cut_short(
+    text: &mut Text,
+    search: &Search<'_>,
+    is_certified: bool,
+) -> Result<(), AllocError> {
     let budget = u64::from(search.effort.budget);
-    if search.each {
+    if search.table.is_some() {
         text.number_between(
             b"the search for some output ended before it was done: ",
             budget,
@@ -24,7 +29,24 @@ pub(crate) fn cut_short(text: &mut Text, search: &Search<'_>) -> Result<(), Allo
     if search.strategy == Strategy::Least {
         help(text, b"--strategy auto, which goes on by other ways")?;
     }
+    if search.certificate.is_some() && !is_certified {
+        uncertified(text, search.between)?;
+    }
     ways_on(text, &search.effort)
+}
+
+/// Appends that no certificate was written, and what to do.
+fn uncertified(text: &mut Text, between: bool) -> Result<(), AllocError> {
+    if between {
+        return help(
+            text,
+            b"--strategy refute, for a certificate: no steps showed the upper figure",
+        );
+    }
+    help(
+        text,
+        b"--cert-between, for a certificate of both figures: none was written",
+    )
 }
 
 /// Appends which options let a search go on.

@@ -6,7 +6,7 @@ use crate::endings::cut_short;
 use crate::fault::Fault;
 use crate::lines::of_file;
 use crate::message::tell;
-use crate::names::{about_word, bad_keep, no_net};
+use crate::names::{about_word, bad_keep, bad_line, long_keep_file, no_net};
 use crate::outputs::read_as;
 use crate::refusals::{
     NetlistText, certificate_fault, memory, netlist_fault, no_pair, no_timer, not_accepted,
@@ -94,7 +94,9 @@ pub(crate) fn ending_hint(
 ) -> Result<Text, AllocError> {
     let mut text = Text::new(alloc);
     match (&request.command, outcome.status) {
-        (Command::Worst(search), Status::Between) => cut_short(&mut text, search)?,
+        (Command::Worst(search), Status::Between) => {
+            cut_short(&mut text, search, outcome.certificate.is_some())?;
+        }
         (Command::Check(check), Status::Rejected) => {
             if let Some(verdict) = outcome.verdict {
                 not_accepted(&mut text, check.certificate, verdict)?;
@@ -158,8 +160,12 @@ impl<'r, 'w, 't> Case<'r, 'w, 't> {
             QuestionFault::Source(fault) => self.source(text, fault),
             QuestionFault::BadName(fault, labels) => about_word(text, *fault, labels),
             QuestionFault::BadVector(word) => self.vector(text, *word),
-            QuestionFault::BadKeep(_) => bad_keep(text),
+            QuestionFault::BadKeep(quote) => match quote.line {
+                None => bad_keep(text),
+                Some(_) => bad_line(text),
+            },
             QuestionFault::NoNet(_) => no_net(text),
+            QuestionFault::LongKeepFile => long_keep_file(text),
         }
     }
 

@@ -56,6 +56,23 @@ pub(crate) fn bad_keep(text: &mut Text) -> Result<(), AllocError> {
     )
 }
 
+/// Appends what a line of a file of conditions has to be.
+pub(crate) fn bad_line(text: &mut Text) -> Result<(), AllocError> {
+    text.push(
+        b"a line has a net's name, a blank and two levels, each 0, 1 or ., or the name and ==",
+    )?;
+    help(
+        text,
+        b"ok 11 keeps a net at 1, y 01 asks for its rise, y .. asks nothing, y == for equal levels",
+    )
+}
+
+/// Appends that a file of conditions is too long.
+pub(crate) fn long_keep_file(text: &mut Text) -> Result<(), AllocError> {
+    text.push(b"the file of conditions has more than 67108864 bytes")?;
+    help(text, b"leave out what is said more than once, or comments")
+}
+
 /// Appends which names nets have.
 pub(crate) fn no_net(text: &mut Text) -> Result<(), AllocError> {
     text.push(b"no input and no gate's output is printed so")?;

@@ -1,9 +1,9 @@
 //! The files that a request writes.
 
-ghost use Rattle.std.specs.Prelude.{◌≡◌, ℕ, List, All, map, IfSome, IfNone};
+ghost use Rattle.std.specs.Prelude.{◌≡◌, ◌⊎◌, ℕ, List, All, map, IfSome, IfNone};
 ghost use Rattle.std.specs.List.{Contains};
-ghost use Rattle.td_cli.specs.Clashes.{AreApart, AreOne, IsFaultOf, IsOneFile, IsOverRead, KeepsFiles, KeepsRead, read_name, word_of};
-ghost use Rattle.td_cli.specs.Files.{outputs_of};
+ghost use Rattle.td_cli.specs.Clashes.{AreApart, AreOne, IsFaultOf, IsOneFile, IsOverAny, IsOverRead, KeepsAny, KeepsFiles, KeepsRead, read_name, word_of};
+ghost use Rattle.td_cli.specs.Files.{keep_file, outputs_of};
 
 use crate::fault::Fault;
 use td_files::Files;
@@ -35,8 +35,20 @@ fn named<'w>(certificate: Option<&'w str>, dump: Option<&'w str>) -> Outputs<'w>
     Outputs { certificate, dump }
 }
 
-/// Why a request isn't carried out that would write one of its files over another: the netlist or a
-/// part's certificate that it reads, or the other file that it writes.
+/// The name of the file of conditions that a request reads, where it names one.
+pub(crate) fn keep_file<'w>(request: &Request<'w>) -> Option<&'w str>
+    ensures { result ≡ keep_file request.now.command }
+{
+    match &request.command {
+        Command::Worst(search) => search.question.keep_file,
+        Command::Parts(parts) => parts.question.keep_file,
+        Command::Join(join) => join.question.keep_file,
+        _ => None,
+    }
+}
+
+/// Why a request isn't carried out that would write one of its files over another: the netlist, the
+/// file of conditions or a part's certificate that it reads, or the other file that it writes.
 pub(crate) fn overwriting<'w, F: Files>(files: &mut F, request: &Request<'w>) -> Option<Fault<'w>>
     ensures some { IfSome result (IsFaultOf (F.disk files.old) request.now) }
     ensures none { IfNone result (KeepsFiles (F.disk files.old) request.now) }
@@ -49,9 +61,31 @@ pub(crate) fn overwriting<'w, F: Files>(files: &mut F, request: &Request<'w>) ->
     if let Some(fault) = over_read(files, outputs.dump, request.file) {
         return Some(fault);
     }
+    if let Some(fault) = over_either(files, outputs, keep_file(request)) {
+        return Some(fault);
+    }
     match &request.command {
         Command::Join(join) => over_one_of(files, outputs.certificate, join.parts.names()),
         _ => over(files, outputs.dump, outputs.certificate),
+    }
+}
+
+/// One of the files that are written in place of one that is read, where it is named.
+fn over_either<'w, F: Files>(
+    files: &mut F,
+    outputs: Outputs<'w>,
+    file: Option<&'w str>,
+) -> Option<Fault<'w>>
+    ensures some { IfSome result (λ fault. IsOneFile fault × (IsOverAny (F.disk files.old) outputs.entry.certificate file.entry ⊎ IsOverAny (F.disk files.old) outputs.entry.dump file.entry)) }
+    ensures none { IfNone result (KeepsAny (F.disk files.old) outputs.entry.certificate file.entry × KeepsAny (F.disk files.old) outputs.entry.dump file.entry) }
+    ensures stays { files.new ≡ files.old }
+{
+    let Some(file) = file else {
+        return None;
+    };
+    match over_read(files, outputs.certificate, file) {
+        Some(fault) => Some(fault),
+        None => over_read(files, outputs.dump, file),
     }
 }
 

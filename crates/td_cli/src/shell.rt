@@ -3,7 +3,7 @@
 ghost use Rattle.std.specs.Prelude.{◌≡◌, ◌⊎◌, map, IfOk, IfErr, IfSome, IfNone, OnOk};
 ghost use Rattle.td_command.specs.Parting.{AreParted};
 ghost use Rattle.td_command.specs.Saying.{AskFor};
-ghost use Rattle.td_answer.specs.Outcomes.{IsPlain, IsRefusedBy, SaysTrue};
+ghost use Rattle.td_answer.specs.Outcomes.{IsPlain, IsRefused, IsTrueOutcome};
 ghost use Rattle.td_answer.specs.Statuses.{status_of};
 ghost use Rattle.td_answer.specs.Writing.{CanBeWritten};
 ghost use Rattle.td_answer.specs.declared.status.Status.TheVariants as ending;
@@ -185,7 +185,8 @@ pub fn carry_out<R: Threads + Wait + Clock + Sync, F: Files, O: Sink, E: Sink, A
     if advice.is_wanted(request.hints) || shows_progress(request) {
         warn(alloc, request, err, advice);
     }
-    match judged(rt, alloc, request, &bytes.netlist, &bytes.certificates, err) {
+    let texts = bytes.texts();
+    match judged(rt, alloc, request, &texts, err) {
         Ok(outcome) => finish(alloc, request, &outcome, files, out, err, advice),
         Err(refusal) => refuse(alloc, request, &bytes.netlist, &refusal, err, advice),
     }
@@ -197,20 +198,15 @@ fn judged<'n, 'c, 'w, R: Threads + Wait + Clock + Sync, E: Sink>(
     rt: &R,
     alloc: Global,
     request: &Request<'w>,
-    netlist: &'n [u8],
-    certificates: &'c [Vec<u8>],
+    texts: &Texts<'n, 'c, 'w>,
     err: &mut E,
 ) -> Result<Outcome, Refusal<'n, 'w>>
-    ensures says { IfOk result (SaysTrue request.now.command netlist.entry.now request.now.reading certificates.entry.now) }
+    ensures says { IfOk result (IsTrueOutcome request.now texts.now) }
     ensures written { IfOk result CanBeWritten }
-    ensures refusal { IfErr result (IsRefusedBy request.now.command netlist.entry.now request.now.reading certificates.entry.now) }
+    ensures refusal { IfErr result (IsRefused request.now texts.now) }
 {
-    let texts = Texts {
-        netlist,
-        certificates,
-    };
     let mut watch = ProgressLines::new(rt, alloc, shows_progress(request), err);
-    let outcome = answer(rt, alloc, request, &texts, &mut watch);
+    let outcome = answer(rt, alloc, request, texts, &mut watch);
     let ProgressLines { err, .. } = watch;
     take_back(err);
     outcome
@@ -239,29 +235,11 @@ fn carry_out_plain<F: Files, O: Sink, E: Sink>(
         Ok(bytes) => bytes,
         Err(fault) => return tell_fault(alloc, fault, err),
     };
-    match judged_plain(alloc, request, &bytes.netlist, &bytes.certificates) {
+    let texts = bytes.texts();
+    match answer_plain(alloc, request, &texts) {
         Ok(outcome) => finish(alloc, request, &outcome, files, out, err, &NoAdvice),
         Err(refusal) => tell_refusal(alloc, &refusal, err),
     }
-}
-
-/// The outcome of a request that is no search.
-fn judged_plain<'n, 'c, 'w>(
-    alloc: Global,
-    request: &Request<'w>,
-    netlist: &'n [u8],
-    certificates: &'c [Vec<u8>],
-) -> Result<Outcome, Refusal<'n, 'w>>
-    requires { IsPlain request.now.command }
-    ensures says { IfOk result (SaysTrue request.now.command netlist.entry.now request.now.reading certificates.entry.now) }
-    ensures written { IfOk result CanBeWritten }
-    ensures refusal { IfErr result (IsRefusedBy request.now.command netlist.entry.now request.now.reading certificates.entry.now) }
-{
-    let texts = Texts {
-        netlist,
-        certificates,
-    };
-    answer_plain(alloc, request, &texts)
 }
 
 /// Hands an outcome over. Answers how the program ends.

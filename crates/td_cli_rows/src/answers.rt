@@ -17,19 +17,19 @@ use td_pool::Unwatched;
 use td_reading::{Reading, Told};
 use td_request::{
     Bound, Check, Command, Count, Effort, Files, Form, Inputs, Join, Parts, Path, Question,
-    Request, Search, Shown, Sim, Strategy,
+    Request, Search, Shown, Sim, Strategy, Table,
 };
 use td_text::MemorySink;
 
 /// How many bytes a certificate may have.
-const ROOM: usize = 1 << 16;
+pub const ROOM: usize = 1 << 16;
 
 /// A netlist with two outputs: the first one changes last at moment 3, the second one at moment 5.
 const TWO: &[u8] =
     b"module t(a, b, y, z);\ninput a, b;\noutput y, z;\nnot #(2,3) g(y,a);\nxor #(4,5) h(z,a,b);\nendmodule\n";
 
 /// Nothing is shown beside an answer.
-const ALONE: Shown = Shown {
+pub const ALONE: Shown = Shown {
     path: false,
     outputs: false,
     progress: false,
@@ -78,6 +78,8 @@ fn flipped(named: &'static [Taken<'static>], flips: u64) -> Question<'static> {
     Question {
         inputs: Inputs { given, named },
         flips: Some(flips),
+        keep_file: None,
+        keep_text: None,
     }
 }
 
@@ -100,11 +102,18 @@ fn reading(alloc: Global) -> Option<Reading<'static>> {
 }
 
 /// The search from a first vector, within so many nodes.
-fn search(first: Option<&'static str>, budget: u32, shown: Shown, each: bool) -> Command<'static> {
+pub fn search(
+    first: Option<&'static str>,
+    budget: u32,
+    shown: Shown,
+    table: Option<Table>,
+) -> Command<'static> {
     Command::Worst(Search {
         question: Question {
             inputs: pinned(first),
             flips: None,
+            keep_file: None,
+            keep_text: None,
         },
         strategy: Strategy::Least,
         effort: Effort {
@@ -114,13 +123,16 @@ fn search(first: Option<&'static str>, budget: u32, shown: Shown, each: bool) ->
         },
         certificate: None,
         dump: None,
+        required: None,
+        between: false,
         shown,
-        each,
+        table,
+        stray: None,
     })
 }
 
 /// What comes out of a command about the netlist.
-fn answered<R: Threads + Wait + Clock + Sync>(
+pub fn answered<R: Threads + Wait + Clock + Sync>(
     rt: &R,
     alloc: Global,
     command: Command<'static>,
@@ -141,12 +153,13 @@ fn answered<R: Threads + Wait + Clock + Sync>(
     let texts = Texts {
         netlist: TWO,
         certificates,
+        keep: None,
     };
     answer(rt, alloc, &request, &texts, &mut Unwatched)
 }
 
 /// Whether a command ends with this status and this report, or this sentence.
-fn says<R: Threads + Wait + Clock + Sync>(
+pub fn says<R: Threads + Wait + Clock + Sync>(
     rt: &R,
     alloc: Global,
     command: Command<'static>,
@@ -176,7 +189,7 @@ fn push_certificate<R: Threads + Wait + Clock + Sync>(
     texts: &mut Vec<Vec<u8>>,
 ) -> Result<(), Fail> {
     let mut sink = MemorySink::new(alloc, ROOM, 7)?;
-    if let Ok(outcome) = answered(rt, alloc, search(first, 1000, ALONE, false), &[]) {
+    if let Ok(outcome) = answered(rt, alloc, search(first, 1000, ALONE, None), &[]) {
         if let Some(certificate) = &outcome.certificate {
             if write(alloc, &mut sink, certificate).is_err() {
                 return Ok(());
@@ -223,7 +236,7 @@ fn searches(rt: HostRuntime) -> Result<(), Fail> {
         says(
             &rt,
             rt.alloc(),
-            search(None, 1000, BESIDE, false),
+            search(None, 1000, BESIDE, None),
             &[],
             Status::Done,
             report
@@ -234,43 +247,15 @@ fn searches(rt: HostRuntime) -> Result<(), Fail> {
         says(
             &rt,
             rt.alloc(),
-            search(None, 0, ALONE, false),
+            search(None, 0, ALONE, None),
             &[],
             Status::Between,
             short
         )?
     );
     let word = b"tdelay: bad vector first\n";
-    let wrong = search(Some("0"), 0, ALONE, false);
+    let wrong = search(Some("0"), 0, ALONE, None);
     assert!(rt; says(&rt, rt.alloc(), wrong, &[], Status::BadCommand, word)?);
-    Ok(())
-}
-
-/// Each output alone.
-#[test]
-fn searches_each(rt: HostRuntime) -> Result<(), Fail> {
-    let report = b"unit 1 ns\ndefaulted 0\neach y exact 3 edges 3\neach z exact 5 edges 5\n";
-    assert!(rt;
-        says(
-            &rt,
-            rt.alloc(),
-            search(None, 1000, ALONE, true),
-            &[],
-            Status::Done,
-            report
-        )?
-    );
-    let short = b"unit 1 ns\ndefaulted 0\neach y between 3 3 edges 3\neach z between 0 5 edges 5\n";
-    assert!(rt;
-        says(
-            &rt,
-            rt.alloc(),
-            search(None, 0, ALONE, true),
-            &[],
-            Status::Between,
-            short
-        )?
-    );
     Ok(())
 }
 
@@ -408,13 +393,16 @@ fn describes(rt: HostRuntime) -> Result<(), Fail> {
         inputs: pinned(None),
         edges: true,
         outputs: true,
+        earliest: true,
     });
-    let bounds = b"unit 1 ns\ndefaulted 0\na 5\nt none\nm 5\ne 5\nn 5\noutput z\n";
+    let bounds = b"unit 1 ns\ndefaulted 0\na 5\nt none\nm 5\ne 5\nn 5\noutput z\nearliest 2\n";
     assert!(rt; says(&rt, alloc, bound, &[], Status::Done, bounds)?);
     let parts = Command::Parts(Parts {
         question: Question {
             inputs: pinned(None),
             flips: Some(2),
+            keep_file: None,
+            keep_text: None,
         },
         strategy: Strategy::Least,
         count: Count { parts: 2 },

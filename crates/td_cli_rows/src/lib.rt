@@ -9,3 +9,7 @@ mod commands;
 mod lines;
 #[cfg(test)]
 mod questions;
+#[cfg(test)]
+mod required;
+#[cfg(test)]
+mod tables;

@@ -5,8 +5,8 @@ use std::process::Abort;
 use std::test::*;
 use td_gates::{Kind, Level};
 use td_lines::{
-    Cause, Change, Driver, Figure, Found, Label, Last, Line, Moments, Part, Place, Report, Row,
-    Span, Text, Vector, print_json, print_text,
+    Cause, Change, Changes, Driver, Figure, Found, Hazard, HazardRow, Label, Last, Line, Moments,
+    Part, Place, Report, Row, Span, Text, Vector, print_json, print_text,
 };
 use td_nets::{Scale, Unit};
 
@@ -96,6 +96,35 @@ fn simulated(alloc: Global) -> Result<Report, AllocError> {
     Ok(report)
 }
 
+/// Hazards of outputs.
+fn hazards(alloc: Global) -> Result<Vec<HazardRow>, AllocError> {
+    let mut rows = Vec::new(alloc);
+    rows.push(HazardRow {
+        output: label(alloc, "y")?,
+        level: false,
+        hazard: Hazard::Can {
+            from: bits(alloc, &[false, true])?,
+            to: bits(alloc, &[true, true])?,
+        },
+    })?;
+    rows.push(HazardRow {
+        output: label(alloc, "y")?,
+        level: true,
+        hazard: Hazard::Never,
+    })?;
+    rows.push(HazardRow {
+        output: label(alloc, "z")?,
+        level: false,
+        hazard: Hazard::NoPair,
+    })?;
+    rows.push(HazardRow {
+        output: label(alloc, "z")?,
+        level: true,
+        hazard: Hazard::Open,
+    })?;
+    Ok(rows)
+}
+
 /// What searches found, and parts.
 fn searched(alloc: Global) -> Result<Report, AllocError> {
     let mut report = Report::new(alloc);
@@ -112,23 +141,48 @@ fn searched(alloc: Global) -> Result<Report, AllocError> {
         output: label(alloc, "y")?,
         found: Found::Exact(5),
         edges: Some(7),
+        changes: None,
     })?;
     rows.push(Row {
         output: label(alloc, "exact")?,
         found: Found::Between { low: 2, high: 5 },
         edges: None,
+        changes: None,
     })?;
     rows.push(Row {
         output: label(alloc, "z")?,
         found: Found::AtMost(5),
         edges: Some(5),
+        changes: None,
     })?;
     rows.push(Row {
         output: label(alloc, "w")?,
         found: Found::NoPair,
         edges: Some(3),
+        changes: None,
+    })?;
+    rows.push(Row {
+        output: label(alloc, "v")?,
+        found: Found::Exact(5),
+        edges: Some(5),
+        changes: Some(Changes {
+            rise: Found::Exact(5),
+            fall: Found::Between { low: 2, high: 4 },
+            glitch: Found::Exact(0),
+        }),
+    })?;
+    rows.push(Row {
+        output: label(alloc, "u")?,
+        found: Found::NoPair,
+        edges: None,
+        changes: Some(Changes {
+            rise: Found::NoPair,
+            fall: Found::AtMost(4),
+            glitch: Found::Between { low: 0, high: 4 },
+        }),
     })?;
     report.add(Line::Each(rows))?;
+    report.add(Line::Hazards(hazards(alloc)?))?;
     let mut words = Vec::new(alloc);
     words.push(label(alloc, "--first")?)?;
     words.push(label(alloc, "0.")?)?;
@@ -233,11 +287,17 @@ fn prints_a_search(rt: HostRuntime) -> Result<(), Fail> {
         &report,
         "exact 5\nbetween 2 5\nbetween none 7\nnone\ncause budget\nfrom 01\nto none\nnodes 9\n\
 each y exact 5 edges 7\neach exact between 2 5 edges none\neach z between none 5 edges 5\n\
-each w none edges 3\n--first 0.\n",
+each w none edges 3\neach v exact 5 edges 5 rise 5 fall 2..4 glitch never\n\
+each u none edges none rise none fall none..4 glitch 0..4\n\
+hazard y 0 can 01 11\nhazard y 1 never\nhazard z 0 none\nhazard z 1 open\n--first 0.\n",
         "{\"proved\":true,\"exact\":5,\"between\":[2,5],\"between\":[null,7],\"none\":true,\"cause\":\"budget\",\"from\":\"01\",\
 \"to\":\"none\",\"nodes\":9,\
 \"each\":[[\"y\",\"exact\",5,\"edges\",7],[\"exact\",\"between\",2,5,\"edges\",null],\
-[\"z\",\"between\",null,5,\"edges\",5],[\"w\",\"none\",\"edges\",3]],\
+[\"z\",\"between\",null,5,\"edges\",5],[\"w\",\"none\",\"edges\",3],\
+[\"v\",\"exact\",5,\"edges\",5,\"rise\",5,\"fall\",[2,4],\"glitch\",null],\
+[\"u\",\"none\",\"edges\",null,\"rise\",\"none\",\"fall\",[null,4],\"glitch\",[0,4]]],\
+\"hazard\":[[\"y\",\"0\",\"can\",\"01\",\"11\"],[\"y\",\"1\",\"never\"],[\"z\",\"0\",\"none\"],\
+[\"z\",\"1\",\"open\"]],\
 \"parts\":[[\"--first\",\"0.\"]]}\n",
     )
 }

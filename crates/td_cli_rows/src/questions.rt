@@ -39,6 +39,8 @@ fn asked<'a>(
     let question = Question {
         inputs: Inputs { given, named },
         flips: Some(1),
+        keep_file: None,
+        keep_text: None,
     };
     question_of(alloc, TEXT, &reading, &question)
 }
@@ -202,11 +204,12 @@ fn spells_a_pair(rt: HostRuntime) -> Result<(), Fail> {
 const KEPT: &[u8] =
     b"module t(a, b, y);\ninput [1:0] a;\ninput b;\noutput y;\nwire \\n=1 ;\nand #2 g(y,\\n=1 ,a[0]);\nnot #1 h(\\n=1 ,b);\nendmodule\n";
 
-/// What is asked about the inputs and gates of `KEPT` by words of conditions.
+/// What is asked about the inputs and gates of `KEPT` by words and lines of conditions.
 fn kept<'a>(
     rt: &impl Abort,
     alloc: Global,
     named: &'a [Taken<'a>],
+    lines: Option<&'a [u8]>,
 ) -> Result<Asked, QuestionFault<'static, 'a>> {
     let question = Question {
         inputs: Inputs {
@@ -214,6 +217,8 @@ fn kept<'a>(
             named,
         },
         flips: None,
+        keep_file: Some("conditions"),
+        keep_text: lines,
     };
     question_of(alloc, KEPT, &reading(rt, alloc), &question)
 }
@@ -258,8 +263,8 @@ fn keeps_conditions(rt: HostRuntime) -> Result<(), Fail> {
         keep(b"a[1]=01"),
         keep(b"a[0]=1."),
     ];
-    match kept(&rt, rt.alloc(), &named) {
-        Err(QuestionFault::NoNet(name)) => assert!(rt; name == b"\\n=1 ".as_slice()),
+    match kept(&rt, rt.alloc(), &named, None) {
+        Err(QuestionFault::NoNet(name)) => assert!(rt; name.text == b"\\n=1 ".as_slice()),
         _ => assert!(rt; false),
     }
     let named = [
@@ -287,14 +292,14 @@ fn keeps_conditions(rt: HostRuntime) -> Result<(), Fail> {
         levels(6, Level::Zero, Level::X),
         equal(6),
     ];
-    match kept(&rt, rt.alloc(), &named) {
+    match kept(&rt, rt.alloc(), &named, None) {
         Ok(asked) => {
             assert!(rt; asked.keep.as_slice() == wanted.as_slice());
             assert!(rt; asked.circuit.moments() == [0u64, 0, 7].as_slice());
         }
         Err(_) => assert!(rt; false),
     }
-    match kept(&rt, rt.alloc(), &[]) {
+    match kept(&rt, rt.alloc(), &[], None) {
         Ok(asked) => assert!(rt; asked.keep.is_empty()),
         Err(_) => assert!(rt; false),
     }
@@ -307,14 +312,17 @@ fn refuses_conditions(rt: HostRuntime) -> Result<(), Fail> {
     let bad: [&[u8]; 8] = [b"y=..", b"=01", b"==", b"y=0x", b"y=0", b"y", b"y=0=", b""];
     for word in &bad {
         let named = [keep(b"y=01"), keep(word), keep(b"z=01")];
-        match kept(&rt, rt.alloc(), &named) {
-            Err(QuestionFault::BadKeep(found)) => assert!(rt; found == *word),
+        match kept(&rt, rt.alloc(), &named, None) {
+            Err(QuestionFault::BadKeep(found)) => {
+                assert!(rt; found.text == *word);
+                assert!(rt; found.line.is_none());
+            }
             _ => assert!(rt; false),
         }
     }
     let named = [keep(b"y=01"), keep(b"a=01"), keep(b"y=..")];
-    match kept(&rt, rt.alloc(), &named) {
-        Err(QuestionFault::NoNet(name)) => assert!(rt; name == b"a".as_slice()),
+    match kept(&rt, rt.alloc(), &named, None) {
+        Err(QuestionFault::NoNet(name)) => assert!(rt; name.text == b"a".as_slice()),
         _ => assert!(rt; false),
     }
     let named = [
@@ -324,8 +332,67 @@ fn refuses_conditions(rt: HostRuntime) -> Result<(), Fail> {
             text: b"c=1",
         },
     ];
-    match kept(&rt, rt.alloc(), &named) {
+    match kept(&rt, rt.alloc(), &named, None) {
         Err(QuestionFault::BadName(..)) => {}
+        _ => assert!(rt; false),
+    }
+    Ok(())
+}
+
+/// The lines of a file say what words say, and are one set with them.
+#[test]
+fn keeps_lines(rt: HostRuntime) -> Result<(), Fail> {
+    let named = [keep(b"a[0]=10"), keep(b"y=.1")];
+    let lines: &[u8] =
+        b"# all\n\n a[0]\t10 # again\r\n\\n=1\t==#\n  \\n=1   0.\na[1] 01\n#y ..\na[0] ==";
+    let wanted = [
+        levels(2, Level::Zero, Level::One),
+        levels(3, Level::One, Level::Zero),
+        equal(3),
+        levels(5, Level::X, Level::One),
+        levels(6, Level::Zero, Level::X),
+        equal(6),
+    ];
+    match kept(&rt, rt.alloc(), &named, Some(lines)) {
+        Ok(asked) => assert!(rt; asked.keep.as_slice() == wanted.as_slice()),
+        Err(_) => assert!(rt; false),
+    }
+    match kept(&rt, rt.alloc(), &[], Some(b"# none\n\n")) {
+        Ok(asked) => assert!(rt; asked.keep.is_empty()),
+        Err(_) => assert!(rt; false),
+    }
+    Ok(())
+}
+
+/// The first line that says no condition is refused with its number, behind the words.
+#[test]
+fn refuses_lines(rt: HostRuntime) -> Result<(), Fail> {
+    let bad: [&[u8]; 8] = [
+        b"y ..", b"01", b"==", b"y 0x", b"y 0", b"y", b"y=01", b"y 01 a",
+    ];
+    for line in &bad {
+        let mut text = Vec::new(rt.alloc());
+        text.extend_from_slice(b"y 01\n\n ")?;
+        text.extend_from_slice(line)?;
+        text.extend_from_slice(b" # bad\nz 01\n")?;
+        match kept(&rt, rt.alloc(), &[], Some(&text)) {
+            Err(QuestionFault::BadKeep(found)) => {
+                assert!(rt; found.text == *line);
+                assert!(rt; found.line == Some(3));
+            }
+            _ => assert!(rt; false),
+        }
+    }
+    match kept(&rt, rt.alloc(), &[], Some(b"y 01\n\\a#b [1] 01#\n")) {
+        Err(QuestionFault::NoNet(name)) => {
+            assert!(rt; name.text == b"\\a#b [1]".as_slice());
+            assert!(rt; name.line == Some(2));
+        }
+        _ => assert!(rt; false),
+    }
+    let named = [keep(b"z=01")];
+    match kept(&rt, rt.alloc(), &named, Some(b"y ..")) {
+        Err(QuestionFault::NoNet(name)) => assert!(rt; name.line.is_none()),
         _ => assert!(rt; false),
     }
     Ok(())

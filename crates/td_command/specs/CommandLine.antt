@@ -96,7 +96,8 @@ cube_rules = option (codes "first") ∷ option (codes "second") ∷ named_option
 -- and the number of flips has a limit
 abbrev pub admitted_rules : List Rule
 admitted_rules =
-    cube_rules ++ option (codes "hold") ∷ named_option (codes "hold-input") ∷ named_option (codes "keep") ∷ count_option (codes "flips") ∷ []
+    cube_rules ++ option (codes "hold") ∷ named_option (codes "hold-input") ∷ named_option (codes "keep") ∷ option (codes "keep-file")
+    ∷ count_option (codes "flips") ∷ []
 
 -- by which strategy a search goes
 abbrev pub strategy_rule : Listed → Rule
@@ -110,11 +111,12 @@ certificate_rule = with_letter out_letter (option (codes "cert"))
 abbrev pub outputs_rule : Rule
 outputs_rule = record (option (codes "output")) { action = Some Append }
 
--- how a search goes, and where its certificate goes
+-- how a search goes, when its answer is enough, and where its certificate goes
 abbrev pub search_rules : Listed → List Rule
 search_rules strategies =
     with_letter workers_letter (number_option (codes "workers") 1 64 (codes "1")) ∷ strategy_rule strategies ∷
-    number_option (codes "budget") 0 10000000 (codes "1000000") ∷ count_option (codes "seconds") ∷ certificate_rule ∷ []
+    number_option (codes "budget") 0 10000000 (codes "1000000") ∷ count_option (codes "seconds") ∷ count_option (codes "required") ∷
+    certificate_rule ∷ flag (codes "cert-between") ∷ []
 
 -- the command of this name, which takes these arguments, and those of all commands after them
 abbrev pub command_of : Text → List Rule → App
@@ -128,12 +130,17 @@ path_command = command_of (codes "path") (pair_rules ++ option (codes "at") ∷ 
 
 abbrev pub bound_command : App
 bound_command =
-    command_of (codes "bound") (needed (codes "FILE") ∷ cube_rules ++ option (codes "at") ∷ flag (codes "edges") ∷ flag (codes "outputs") ∷ outputs_rule ∷ [])
+    command_of (codes "bound") (needed (codes "FILE") ∷ cube_rules ++ option (codes "at") ∷ flag (codes "edges") ∷ flag (codes "earliest") ∷ flag (codes "outputs")
+    ∷ outputs_rule ∷ [])
+
+-- which table is asked for, of each output by itself
+abbrev pub table_rules : List Rule
+table_rules = flag (codes "each") ∷ flag (codes "changes") ∷ flag (codes "figures") ∷ flag (codes "hazards") ∷ []
 
 abbrev pub worst_command : Listed → App
 worst_command strategies =
     command_of (codes "worst") (needed (codes "FILE") ∷ admitted_rules ++ option (codes "at") ∷ search_rules strategies
-    ++ option (codes "vcd") ∷ flag (codes "path") ∷ flag (codes "progress") ∷ flag (codes "outputs") ∷ outputs_rule ∷ flag (codes "each") ∷ [])
+    ++ option (codes "vcd") ∷ flag (codes "path") ∷ flag (codes "progress") ∷ flag (codes "outputs") ∷ outputs_rule ∷ table_rules)
 
 abbrev pub parts_command : Listed → App
 parts_command strategies =

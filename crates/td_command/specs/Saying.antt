@@ -26,6 +26,7 @@ use Rattle.td_request.specs.declared.request.Join.{Join}
 use Rattle.td_request.specs.declared.request.Check.{Check}
 use Rattle.td_request.specs.declared.request.Request.{Request}
 use Rattle.td_command.specs.CommandLine.{HasCount, HasWord, HasWords, HasFlag, LacksFlag, HasNumber, HasReading, HasWholeReading, IsGiven, IsTold, kinds_of, program}
+use Rattle.td_command.specs.Tables.{SaysTables}
 use Rattle.td_command.specs.declared.words.Words.{Words}
 use Rattle.td_command.specs.declared.requests.Common.{Common}
 
@@ -41,6 +42,8 @@ pub record SaysInputs (rows : List Row) (named : List Taken) (said : Inputs) : T
 pub record SaysQuestion (rows : List Row) (named : List Taken) (said : Question) : Type 0 where
   pub inputs : SaysInputs rows named said.inputs
   pub flips : HasCount (codes "flips") rows said.flips
+  pub keep_file : HasWord (codes "keep-file") rows said.keep_file
+  pub unread : said.keep_text ≡ None
 
 abbrev pub strategy_word : Strategy → Text
 strategy_word strategy.Least = codes "least"
@@ -78,15 +81,18 @@ pub record SaysBound (rows : List Row) (named : List Taken) (said : Bound) : Typ
   pub inputs : SaysInputs rows named said.inputs
   pub edges : HasFlag (codes "edges") rows said.edges
   pub outputs : HasFlag (codes "outputs") rows said.outputs
+  pub earliest : HasFlag (codes "earliest") rows said.earliest
 
 pub record SaysWorst (rows : List Row) (named : List Taken) (said : Search) : Type 0 where
   pub question : SaysQuestion rows named said.question
   pub strategy : SaysStrategy rows said.strategy
   pub effort : SaysEffort rows said.effort
+  pub required : HasCount (codes "required") rows said.required
   pub certificate : HasWord (codes "cert") rows said.certificate
+  pub between : HasFlag (codes "cert-between") rows said.between
   pub dump : HasWord (codes "vcd") rows said.dump
   pub shown : SaysShown rows said.shown
-  pub each : HasFlag (codes "each") rows said.each
+  pub tables : SaysTables rows (record { table = said.table; stray = said.stray })
 
 pub record SaysParts (rows : List Row) (named : List Taken) (said : Parts) : Type 0 where
   pub question : SaysQuestion rows named said.question

@@ -100,6 +100,7 @@ impl<'a> Commands<'a> {
         arguments.cube()?;
         arguments.moments()?;
         arguments.edges()?;
+        arguments.earliest()?;
         arguments.outputs(BOUND_OUTPUT_HELP)?;
         arguments.asked_outputs()?;
         arguments.common()?;
@@ -119,7 +120,7 @@ impl<'a> Commands<'a> {
         arguments.vcd()?;
         arguments.reported()?;
         arguments.asked_outputs()?;
-        arguments.each()?;
+        arguments.tables()?;
         arguments.common()?;
         self.add(
             "worst",

@@ -13,10 +13,11 @@ mod line;
 mod options;
 mod requests;
 mod shared;
+mod tables;
 #[cfg(test)]
 mod tests;
 mod words;
 
-pub use conflicts::{Conflict, conflict_of};
+pub use conflicts::{Conflict, Kept, Single, Which, conflict_of};
 pub use line::asked;
 pub use words::Words;

@@ -10,6 +10,7 @@ use crate::options::{
     budget, count, files, flag_given, flag_left_out, needed, parts as parts_number, reading, told,
     whole_reading, word, workers,
 };
+use crate::tables::{Tables, tables_in};
 use clap::ArgMatches;
 use std::alloc::{AllocError, Global};
 use td_inputs::{Given, Taken};
@@ -42,7 +43,13 @@ fn question<'a>(matches: &ArgMatches<'a>, named: &'a [Taken<'a>]) -> Option<Ques
 {
     let flips = count(matches, "flips")?;
     let inputs = inputs(matches, named);
-    Some(Question { inputs, flips })
+    let keep_file = word(matches, "keep-file");
+    Some(Question {
+        inputs,
+        flips,
+        keep_file,
+        keep_text: None,
+    })
 }
 
 fn strategy(matches: &ArgMatches<'_>) -> Option<Strategy>
@@ -121,11 +128,13 @@ fn bound<'a>(matches: &ArgMatches<'a>, named: &'a [Taken<'a>]) -> Option<Command
 {
     let edges = flag_given(matches, "edges")?;
     let outputs = flag_given(matches, "outputs")?;
+    let earliest = flag_given(matches, "earliest")?;
     let inputs = inputs(matches, named);
     Some(Command::Bound(Bound {
         inputs,
         edges,
         outputs,
+        earliest,
     }))
 }
 
@@ -136,17 +145,22 @@ fn worst<'a>(matches: &ArgMatches<'a>, named: &'a [Taken<'a>]) -> Option<Command
     let strategy = strategy(matches)?;
     let effort = effort(matches)?;
     let shown = shown(matches)?;
-    let each = flag_given(matches, "each")?;
+    let required = count(matches, "required")?;
+    let between = flag_given(matches, "cert-between")?;
+    let Tables { table, stray } = tables_in(matches)?;
     let certificate = word(matches, "cert");
     let dump = word(matches, "vcd");
     Some(Command::Worst(Search {
         question,
         strategy,
         effort,
+        required,
         certificate,
+        between,
         dump,
         shown,
-        each,
+        table,
+        stray,
     }))
 }
 

@@ -1,8 +1,8 @@
 //! The arguments that commands have in common.
 
 ghost use Rattle.std.specs.Prelude.{◌≡◌, ◌++◌, [], ◌∷◌, codes, OnOk};
-ghost use Rattle.td_command.specs.CommandLine.{needed, needed_words, needed_number, option, number_option, flag};
-ghost use Rattle.td_command.specs.CommandLine.{with_letter, workers_letter, quiet_letter, common_rules, pair_rules, cube_rules, admitted_rules, strategy_rule, certificate_rule, outputs_rule, search_rules};
+ghost use Rattle.td_command.specs.CommandLine.{needed, needed_words, needed_number, option, number_option, count_option, flag};
+ghost use Rattle.td_command.specs.CommandLine.{with_letter, workers_letter, quiet_letter, common_rules, pair_rules, cube_rules, admitted_rules, strategy_rule, certificate_rule, outputs_rule, search_rules, table_rules};
 ghost use Rattle.td_command.specs.Telling.{TellsRule, TellsRules};
 
 use crate::arguments::{Arguments, flag, number, option};
@@ -116,14 +116,29 @@ time of the input of this name, as often as needed",
         self.flag("outputs", help)
     }
 
-    /// Whether each output is asked about in turn, as a flag.
-    pub(crate) fn each(&mut self) -> Result<(), AllocError>
-        ensures { OnOk result (TellsRule (flag (codes "each")) self.old self.new) }
+    /// Which table is asked for, of each output in turn, as flags.
+    pub(crate) fn tables(&mut self) -> Result<(), AllocError>
+        ensures { OnOk result (TellsRules table_rules self.old self.new) }
     {
         self.flag(
             "each",
             "Asks about every output by itself, one after another, and prints a\n\
 line for each: its worst delay, and its bound by edges",
+        )?;
+        self.flag(
+            "changes",
+            "With --each: also the latest rise and the latest fall of the output,\n\
+and whether it can glitch",
+        )?;
+        self.flag(
+            "figures",
+            "With --each --changes: also how late the output can glitch",
+        )?;
+        self.flag(
+            "hazards",
+            "Asks of every output, one after another, whether it can glitch where it\n\
+settles at 0 under both vectors, and where at 1, and prints a line for\n\
+each",
         )
     }
 
@@ -180,6 +195,17 @@ and possible levels at once (n)",
         )
     }
 
+    /// Whether the earliest change of an output is asked for, as a flag.
+    pub(crate) fn earliest(&mut self) -> Result<(), AllocError>
+        ensures { OnOk result (TellsRule (flag (codes "earliest")) self.old self.new) }
+    {
+        self.flag(
+            "earliest",
+            "The time before which no pair changes an output, by edges; none if no\n\
+pair changes one",
+        )
+    }
+
     /// Whether the chain of the given pair is asked for, how far the search is, and which output
     /// changes last, as flags.
     pub(crate) fn reported(&mut self) -> Result<(), AllocError>
@@ -221,6 +247,12 @@ times",
             "Admits only pairs under which the net of this name settles at F under\n\
 the first vector and at S under the second, each 0, 1 or . (either); with\n\
 NET==, at the same level under both. Any number of times",
+        )?;
+        self.option(
+            "keep-file",
+            "FILE",
+            "A file with more conditions as of --keep, a line for each: NET FS or\n\
+NET ==; `#` begins a comment",
         )?;
         self.count(
             "flips",
@@ -269,7 +301,28 @@ ends",
         self.add(option(self.alloc, "cert", "OUT", help).short('o'))
     }
 
-    /// How a search goes, and where its certificate goes, as options.
+    /// When an answer is enough, and where the certificate goes, as options.
+    fn aims(&mut self) -> Result<(), AllocError>
+        ensures { OnOk result (TellsRules (count_option (codes "required") ∷ certificate_rule ∷ flag (codes "cert-between") ∷ []) self.old self.new) }
+    {
+        self.count(
+            "required",
+            "Whether all outputs settle by this moment, in steps: the search ends\n\
+once that is known. Status 0 where they do, 6 where a pair is later, 3\n\
+where it stays open",
+        )?;
+        self.certificate_out(
+            "Writes the certificate of an exact answer to this file, or of whether\n\
+--required is met",
+        )?;
+        self.flag(
+            "cert-between",
+            "With --cert, an answer that stays open has a certificate of both\n\
+figures",
+        )
+    }
+
+    /// How a search goes, when its answer is enough, and where its certificate goes, as options.
     fn search(&mut self, strategies: &'a [&'a str]) -> Result<(), AllocError>
         ensures { OnOk result (TellsRules (search_rules strategies.entry) self.old self.new) }
     {
@@ -288,7 +341,7 @@ of `refute`, in units",
             "Ends the search after this many seconds of the clock; the answer then\n\
 lies between two figures",
         )?;
-        self.certificate_out("Writes the certificate of an exact answer to this file")
+        self.aims()
     }
 
     /// The netlist, the pairs that a search of its worst delay admits, and how the search goes.

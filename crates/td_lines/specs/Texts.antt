@@ -1,5 +1,5 @@
 -- The text of a report.
-use Rattle.std.specs.Prelude.{ℕ, Bool, true, false, List, [], ◌∷◌, ◌++◌, map, codes, decimal, Option, Some, None}
+use Rattle.std.specs.Prelude.{ℕ, Bool, true, false, List, [], ◌∷◌, ◌++◌, map, codes, decimal, Option, Some, None, ◌==◌, if◌then◌else◌}
 use Rattle.std.specs.List.{flat_map}
 use Rattle.td_gates.specs.declared.primitives.Kind.{Kind}
 use Rattle.td_gates.specs.declared.primitives.Kind.TheVariants as kind
@@ -9,6 +9,8 @@ use Rattle.td_nets.specs.declared.netlist.Unit.{Unit as Step}
 use Rattle.td_nets.specs.Scales.{scale_text}
 use Rattle.td_lines.specs.declared.line.Cause.{Cause}
 use Rattle.td_lines.specs.declared.line.Cause.TheVariants as cause
+use Rattle.td_lines.specs.declared.line.Standing.{Standing}
+use Rattle.td_lines.specs.declared.line.Standing.TheVariants as standing
 use Rattle.td_lines.specs.declared.line.Figure.{Figure}
 use Rattle.td_lines.specs.declared.line.Figure.TheVariants as figure
 use Rattle.td_lines.specs.declared.line.Span.{Span}
@@ -19,7 +21,11 @@ use Rattle.td_lines.specs.declared.line.Change.{Change}
 use Rattle.td_lines.specs.declared.line.Part.{Part}
 use Rattle.td_lines.specs.declared.line.Found.{Found}
 use Rattle.td_lines.specs.declared.line.Found.TheVariants as found
+use Rattle.td_lines.specs.declared.line.Changes.{Changes}
 use Rattle.td_lines.specs.declared.line.Row.{Row}
+use Rattle.td_lines.specs.declared.line.Hazard.{Hazard}
+use Rattle.td_lines.specs.declared.line.Hazard.TheVariants as hazard
+use Rattle.td_lines.specs.declared.line.HazardRow.{HazardRow}
 use Rattle.td_lines.specs.declared.line.Line.{Line}
 use Rattle.td_lines.specs.declared.line.Line.TheVariants as line
 
@@ -93,6 +99,7 @@ figure_key figure.Possibles = codes "t"
 figure_key figure.Both = codes "m"
 figure_key figure.Edges = codes "e"
 figure_key figure.EdgesAndPossibles = codes "n"
+figure_key figure.Earliest = codes "earliest"
 
 abbrev pub bound_line : Figure → Option ℕ → List ℕ
 bound_line by bound = figure_key by ++ codes " " ++ bound_text bound ++ newline
@@ -104,6 +111,15 @@ abbrev pub cause_line : Cause → List ℕ
 cause_line cause.Budget = codes "cause budget" ++ newline
 cause_line cause.Memory = codes "cause memory" ++ newline
 cause_line cause.Time = codes "cause time" ++ newline
+cause_line cause.Required = codes "cause required" ++ newline
+
+abbrev pub standing_text : Standing → List ℕ
+standing_text standing.Met = codes "met"
+standing_text standing.Violated = codes "violated"
+standing_text standing.Open = codes "open"
+
+abbrev pub required_line : ℕ → Standing → List ℕ
+required_line moment standing = codes "required " ++ decimal moment ++ codes " " ++ standing_text standing ++ newline
 
 abbrev pub bit : Bool → ℕ
 bit false = 48
@@ -124,10 +140,37 @@ found_text (found.AtMost high) = codes "between none " ++ decimal high
 found_text found.NoPair = codes "none"
 
 abbrev pub edges_text : Option ℕ → List ℕ
-edges_text bound = codes " edges " ++ bound_text bound ++ newline
+edges_text bound = codes " edges " ++ bound_text bound
+
+-- a moment after 0, if this is one
+abbrev pub late : ℕ → Option ℕ
+late time = if time == 0 then None else Some time
+
+-- a moment, or `never` where it is 0; `L..H` where it is open, `none..H` where no pair is known
+abbrev pub column_text : Found → List ℕ
+column_text (found.Exact time) = moment_text (late time)
+column_text (found.Between low high) = decimal low ++ codes ".." ++ decimal high
+column_text (found.AtMost high) = codes "none.." ++ decimal high
+column_text found.NoPair = codes "none"
+
+abbrev pub changes_text : Option Changes → List ℕ
+changes_text None = []
+changes_text (Some changes) =
+    codes " rise " ++ column_text changes.rise ++ codes " fall " ++ column_text changes.fall ++ codes " glitch " ++ column_text changes.glitch
 
 abbrev pub row_line : Row → List ℕ
-row_line row = codes "each " ++ row.output ++ codes " " ++ found_text row.found ++ edges_text row.edges
+row_line row =
+    codes "each " ++ row.output ++ codes " " ++ found_text row.found ++ edges_text row.edges ++ changes_text row.changes ++ newline
+
+-- a pair of vectors, or why there is none
+abbrev pub hazard_text : Hazard → List ℕ
+hazard_text (hazard.Can from to) = codes " can " ++ bits from ++ codes " " ++ bits to
+hazard_text hazard.Never = codes " never"
+hazard_text hazard.NoPair = codes " none"
+hazard_text hazard.Open = codes " open"
+
+abbrev pub hazard_line : HazardRow → List ℕ
+hazard_line row = codes "hazard " ++ row.output ++ codes " " ++ (bit row.level ∷ []) ++ hazard_text row.hazard ++ newline
 
 abbrev pub spaced_word : List ℕ → List ℕ
 spaced_word word = codes " " ++ word
@@ -194,7 +237,9 @@ line_text (line.Cause why) = cause_line why
 line_text (line.From vector) = vector_line (codes "from ") vector
 line_text (line.To vector) = vector_line (codes "to ") vector
 line_text (line.Nodes count) = number_line (codes "nodes ") count
+line_text (line.Required moment standing) = required_line moment standing
 line_text (line.Each rows) = flat_map row_line rows.items
+line_text (line.Hazards rows) = flat_map hazard_line rows.items
 line_text (line.Parts parts) = flat_map part_line parts.items
 line_text (line.Accepted time) = number_line (codes "accepted ") time
 line_text (line.AcceptedBetween time high) = accepted_line time high

@@ -11,6 +11,7 @@ use Rattle.td_nets.specs.declared.netlist.Unit.{Unit as Step}
 use Rattle.td_nets.specs.Scales.{scale_text}
 use Rattle.td_lines.specs.declared.line.Cause.{Cause}
 use Rattle.td_lines.specs.declared.line.Cause.TheVariants as cause
+use Rattle.td_lines.specs.declared.line.Standing.{Standing}
 use Rattle.td_lines.specs.declared.line.Span.{Span}
 use Rattle.td_lines.specs.declared.line.Place.{Place}
 use Rattle.td_lines.specs.declared.line.Last.{Last}
@@ -19,10 +20,14 @@ use Rattle.td_lines.specs.declared.line.Change.{Change}
 use Rattle.td_lines.specs.declared.line.Part.{Part}
 use Rattle.td_lines.specs.declared.line.Found.{Found}
 use Rattle.td_lines.specs.declared.line.Found.TheVariants as found
+use Rattle.td_lines.specs.declared.line.Changes.{Changes}
 use Rattle.td_lines.specs.declared.line.Row.{Row}
+use Rattle.td_lines.specs.declared.line.Hazard.{Hazard}
+use Rattle.td_lines.specs.declared.line.Hazard.TheVariants as hazard
+use Rattle.td_lines.specs.declared.line.HazardRow.{HazardRow}
 use Rattle.td_lines.specs.declared.line.Line.{Line}
 use Rattle.td_lines.specs.declared.line.Line.TheVariants as line
-use Rattle.td_lines.specs.Texts.{bits, figure_key, level_text, kind_text, newline}
+use Rattle.td_lines.specs.Texts.{bit, bits, late, figure_key, level_text, kind_text, newline, standing_text}
 
 -- these tokens were added, and what stood before them stays
 pub record Adds (old new : Written) (tokens : List Token) : Type 0 where
@@ -48,6 +53,11 @@ abbrev pub cause_text : Cause → List ℕ
 cause_text cause.Budget = codes "budget"
 cause_text cause.Memory = codes "memory"
 cause_text cause.Time = codes "time"
+cause_text cause.Required = codes "required"
+
+-- a required moment, and whether it is met
+abbrev pub required_value : ℕ → Standing → Json
+required_value moment standing = array (item (number (decimal moment)) (item (string (standing_text standing)) no_items))
 
 abbrev pub moment_of : Option ℕ → Json
 moment_of None = null
@@ -79,18 +89,42 @@ abbrev pub change_value : Change → Json
 change_value row =
     array (item (number (decimal row.moment)) (item (string row.net) (item (string (level_text row.from)) (item (string (level_text row.to)) (driven_value row.by)))))
 
-abbrev pub edges_value : Option ℕ → Items
-edges_value bound = item (string (codes "edges")) (item (moment_of bound) no_items)
+-- a moment, or null where it is 0; two figures where it is open
+abbrev pub column_value : Found → Json
+column_value (found.Exact time) = moment_of (late time)
+column_value (found.Between low high) = numbers_of low high
+column_value (found.AtMost high) = none_to high
+column_value found.NoPair = string (codes "none")
 
-abbrev pub found_value : Found → Option ℕ → Items
-found_value (found.Exact time) bound = item (string (codes "exact")) (item (number (decimal time)) (edges_value bound))
-found_value (found.Between low high) bound =
-    item (string (codes "between")) (item (number (decimal low)) (item (number (decimal high)) (edges_value bound)))
-found_value (found.AtMost high) bound = item (string (codes "between")) (item null (item (number (decimal high)) (edges_value bound)))
-found_value found.NoPair bound = item (string (codes "none")) (edges_value bound)
+abbrev pub changes_value : Option Changes → Items
+changes_value None = no_items
+changes_value (Some changes) =
+    item (string (codes "rise")) (item (column_value changes.rise) (item (string (codes "fall")) (item (column_value changes.fall)
+    (item (string (codes "glitch")) (item (column_value changes.glitch) no_items)))))
+
+-- the bound by edges of a row, and what is found by the levels
+abbrev pub edges_value : Row → Items
+edges_value row = item (string (codes "edges")) (item (moment_of row.edges) (changes_value row.changes))
+
+abbrev pub found_value : Found → Row → Items
+found_value (found.Exact time) row = item (string (codes "exact")) (item (number (decimal time)) (edges_value row))
+found_value (found.Between low high) row =
+    item (string (codes "between")) (item (number (decimal low)) (item (number (decimal high)) (edges_value row)))
+found_value (found.AtMost high) row = item (string (codes "between")) (item null (item (number (decimal high)) (edges_value row)))
+found_value found.NoPair row = item (string (codes "none")) (edges_value row)
 
 abbrev pub row_value : Row → Json
-row_value row = array (item (string row.output) (found_value row.found row.edges))
+row_value row = array (item (string row.output) (found_value row.found row))
+
+-- a pair of vectors, or why there is none
+abbrev pub hazard_value : Hazard → Items
+hazard_value (hazard.Can from to) = item (string (codes "can")) (item (string (bits from)) (item (string (bits to)) no_items))
+hazard_value hazard.Never = item (string (codes "never")) no_items
+hazard_value hazard.NoPair = item (string (codes "none")) no_items
+hazard_value hazard.Open = item (string (codes "open")) no_items
+
+abbrev pub hazard_row_value : HazardRow → Json
+hazard_row_value row = array (item (string row.output) (item (string (bit row.level ∷ [])) (hazard_value row.hazard)))
 
 abbrev pub part_value : Part → Json
 part_value part = array (items_by string part.words.items)
@@ -140,7 +174,9 @@ key_of (line.Cause why) = codes "cause"
 key_of (line.From vector) = codes "from"
 key_of (line.To vector) = codes "to"
 key_of (line.Nodes count) = codes "nodes"
+key_of (line.Required moment standing) = codes "required"
 key_of (line.Each rows) = codes "each"
+key_of (line.Hazards rows) = codes "hazard"
 key_of (line.Parts parts) = codes "parts"
 key_of (line.Accepted time) = codes "accepted"
 key_of (line.AcceptedBetween time high) = codes "accepted"
@@ -181,7 +217,9 @@ value_of (line.Cause why) = string (cause_text why)
 value_of (line.From vector) = string (bits vector)
 value_of (line.To vector) = string (bits vector)
 value_of (line.Nodes count) = number (decimal count)
+value_of (line.Required moment standing) = required_value moment standing
 value_of (line.Each rows) = array (items_by row_value rows.items)
+value_of (line.Hazards rows) = array (items_by hazard_row_value rows.items)
 value_of (line.Parts parts) = array (items_by part_value parts.items)
 value_of (line.Accepted time) = number (decimal time)
 value_of (line.AcceptedBetween time high) = numbers_of time high

@@ -7,17 +7,22 @@
 #![tactic(auto)]
 
 mod claims;
+mod hazards;
 mod label;
 mod line;
 mod members;
 mod moments;
 mod report;
+mod rows;
 mod text;
 mod texts;
 mod vector;
 
 pub use label::Label;
-pub use line::{Cause, Change, Driver, Figure, Found, Last, Line, Part, Place, Row, Span};
+pub use line::{
+    Cause, Change, Changes, Driver, Figure, Found, Hazard, HazardRow, Last, Line, Part, Place, Row,
+    Span, Standing,
+};
 pub use members::print_json;
 pub use moments::Moments;
 pub use report::Report;

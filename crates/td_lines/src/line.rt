@@ -12,9 +12,21 @@ pub enum Cause {
     Budget,
     Memory,
     Time,
+    /// What was asked of a required moment is answered.
+    Required,
 }
 
-/// Which bound: by arrival windows, possible levels, both; by edges, or edges and possible levels.
+/// Whether outputs settle by a required moment: no admitted pair is later; the given pair is; or
+/// neither is known.
+#[derive(Clone, Copy, Debug, PartialEq, Eq, Drop)]
+pub enum Standing {
+    Met,
+    Violated,
+    Open,
+}
+
+/// Which bound: by arrival windows, possible levels, both; by edges, or edges and possible levels;
+/// the earliest change, by edges.
 #[derive(Clone, Copy, Debug, PartialEq, Eq, Drop)]
 pub enum Figure {
     Arrivals,
@@ -22,6 +34,7 @@ pub enum Figure {
     Both,
     Edges,
     EdgesAndPossibles,
+    Earliest,
 }
 
 /// The least and the greatest of delays, in steps.
@@ -78,12 +91,41 @@ pub enum Found {
     NoPair,
 }
 
-/// What is found of an output alone: its worst delay, and its bound by edges.
+/// What is found of an output by the levels at which it settles: its latest change where it rises,
+/// where it falls, and where it ends at the level of its beginning.
+#[derive(Clone, Copy, Debug, Drop)]
+pub struct Changes {
+    pub rise: Found,
+    pub fall: Found,
+    pub glitch: Found,
+}
+
+/// What is found of an output alone: its worst delay, its bound by edges, and its changes, where
+/// they are asked for.
 #[derive(Debug, Drop)]
 pub struct Row {
     pub output: Label,
     pub found: Found,
     pub edges: Option<u64>,
+    pub changes: Option<Changes>,
+}
+
+/// Whether an output can change late where it settles at one level: a pair that shows it; or it
+/// can't, or no pair is there, or that is open.
+#[derive(Debug, Drop)]
+pub enum Hazard {
+    Can { from: Vector, to: Vector },
+    Never,
+    NoPair,
+    Open,
+}
+
+/// A hazard of an output, by the level at which it settles under both vectors: 1, or 0.
+#[derive(Debug, Drop)]
+pub struct HazardRow {
+    pub output: Label,
+    pub level: bool,
+    pub hazard: Hazard,
 }
 
 /// A line of a report, or several of one kind that follow one another.
@@ -117,7 +159,7 @@ pub enum Line {
     Output(Label),
     /// Changes that lead to the last one.
     Changes(Vec<Change>),
-    /// A bound over all pairs, if there is one.
+    /// A bound over all pairs, if there is one; the earliest change of any pair, if one may come.
     Bound(Figure, Option<u64>),
     /// The worst delay.
     Exact(u64),
@@ -138,8 +180,12 @@ pub enum Line {
     To(Vector),
     /// How many nodes were handled.
     Nodes(u64),
+    /// Whether outputs settle by this moment.
+    Required(u64, Standing),
     /// What is found of each output alone.
     Each(Vec<Row>),
+    /// The hazards of outputs.
+    Hazards(Vec<HazardRow>),
     /// The parts of a question.
     Parts(Vec<Part>),
     /// The time of a certificate that is accepted: the worst delay.

@@ -4,22 +4,21 @@ ghost use Rattle.std.specs.Prelude.{◌≡◌, ◌∷◌, [], true, map, codes, 
 ghost use Rattle.json.specs.Json.{boolean, number, string, array, Json};
 ghost use Rattle.json.specs.Tree.{json_tokens, items_tokens, members_tokens};
 ghost use Rattle.td_nets.specs.Scales.{scale_text};
-ghost use Rattle.td_lines.specs.declared.line.Found.TheVariants as FoundAs;
 ghost use Rattle.td_lines.specs.Texts.{bit, bits, level_text, kind_text};
-ghost use Rattle.td_lines.specs.Values.{Adds, items_by, rows_tokens, count_value, unit_text, cause_text, moment_of, numbers_of, span_value, place_value, last_value, driven_value, change_value, edges_value, found_value, row_value, part_value, member_tokens, line_tokens, members_of, report_json, named, at_value, none_to};
+ghost use Rattle.td_lines.specs.Values.{Adds, items_by, rows_tokens, count_value, unit_text, cause_text, required_value, moment_of, numbers_of, span_value, place_value, last_value, driven_value, change_value, part_value, member_tokens, line_tokens, members_of, report_json, named, at_value, none_to};
 
-use crate::claims;
 use crate::label::Label;
-use crate::line::{Cause, Change, Driver, Found, Last, Line, Part, Place, Row, Span};
+use crate::line::{Cause, Change, Driver, Last, Line, Part, Place, Span, Standing};
 use crate::moments::Moments;
 use crate::vector::Vector;
+use crate::{claims, hazards};
 use json::Writer;
 use std::alloc::{AllocError, Global};
 use td_gates::{Kind, Level};
 use td_nets::{Scale, Unit};
 
 /// What has a value in JSON.
-trait Valued {
+pub(crate) trait Valued {
     /// Its value.
     ghost value: { Self → Json };
 
@@ -119,7 +118,9 @@ fn member(alloc: Global, writer: &mut Writer, line: &Line) -> Result<(), AllocEr
         Line::From(bits) => vector(alloc, writer, "from", bits),
         Line::To(bits) => vector(alloc, writer, "to", bits),
         Line::Nodes(count) => count_of(writer, "nodes", *count),
+        Line::Required(moment, standing) => required(writer, *moment, *standing),
         Line::Each(rows) => lists(writer, "each", rows),
+        Line::Hazards(rows) => hazards::list(alloc, writer, rows),
         Line::Parts(rows) => lists(writer, "parts", rows),
         Line::Accepted(time) => count_of(writer, "accepted", *time),
         Line::AcceptedBetween { time, high } => two(writer, "accepted", *time, *high),
@@ -152,7 +153,7 @@ pub(crate) fn word(writer: &mut Writer, key: &str, text: &str) -> Result<(), All
     writer.string(text)
 }
 
-fn moment(writer: &mut Writer, moment: Option<u64>) -> Result<(), AllocError>
+pub(crate) fn moment(writer: &mut Writer, moment: Option<u64>) -> Result<(), AllocError>
     ensures { OnOk result (Adds writer.old writer.new (json_tokens (moment_of moment))) }
 {
     match moment {
@@ -168,7 +169,7 @@ fn bound(writer: &mut Writer, key: &str, bound: Option<u64>) -> Result<(), Alloc
     moment(writer, bound)
 }
 
-fn numbers(writer: &mut Writer, low: u64, high: u64) -> Result<(), AllocError>
+pub(crate) fn numbers(writer: &mut Writer, low: u64, high: u64) -> Result<(), AllocError>
     ensures { OnOk result (Adds writer.old writer.new (json_tokens (numbers_of low high))) }
 {
     writer.begin_array()?;
@@ -184,14 +185,21 @@ fn two(writer: &mut Writer, key: &str, low: u64, high: u64) -> Result<(), AllocE
     numbers(writer, low, high)
 }
 
-fn at_most(writer: &mut Writer, high: u64) -> Result<(), AllocError>
-    ensures { OnOk result (Adds writer.old writer.new (member_tokens (codes "between") (none_to high))) }
+/// No lower figure, and an upper one.
+pub(crate) fn below(writer: &mut Writer, high: u64) -> Result<(), AllocError>
+    ensures { OnOk result (Adds writer.old writer.new (json_tokens (none_to high))) }
 {
-    writer.key("between")?;
     writer.begin_array()?;
     writer.null()?;
     writer.u64(high)?;
     writer.end_array()
+}
+
+fn at_most(writer: &mut Writer, high: u64) -> Result<(), AllocError>
+    ensures { OnOk result (Adds writer.old writer.new (member_tokens (codes "between") (none_to high))) }
+{
+    writer.key("between")?;
+    below(writer, high)
 }
 
 fn none(writer: &mut Writer) -> Result<(), AllocError>
@@ -254,7 +262,19 @@ fn cause_word(why: Cause) -> &'static str
         Cause::Budget => "budget",
         Cause::Memory => "memory",
         Cause::Time => "time",
+        Cause::Required => "required",
     }
+}
+
+/// A required moment, and whether it is met.
+fn required(writer: &mut Writer, moment: u64, standing: Standing) -> Result<(), AllocError>
+    ensures { OnOk result (Adds writer.old writer.new (member_tokens (codes "required") (required_value moment standing))) }
+{
+    writer.key("required")?;
+    writer.begin_array()?;
+    writer.u64(moment)?;
+    writer.string(standing.word())?;
+    writer.end_array()
 }
 
 fn cause(writer: &mut Writer, why: Cause) -> Result<(), AllocError>
@@ -264,7 +284,7 @@ fn cause(writer: &mut Writer, why: Cause) -> Result<(), AllocError>
 }
 
 /// A character for each bit, or `none`.
-fn characters(alloc: Global, vector: &[bool]) -> Result<String, AllocError>
+pub(crate) fn characters(alloc: Global, vector: &[bool]) -> Result<String, AllocError>
     ensures { IfOk result (λ text. string_bytes text ≡ bits vector.now) }
 {
     if vector.is_empty() {
@@ -413,70 +433,6 @@ impl Valued for Change {
         writer.string(level(self.from))?;
         writer.string(level(self.to))?;
         driven(writer, self.by)
-    }
-}
-
-/// The bound by edges, and the end of the array.
-fn edges(writer: &mut Writer, edges: Option<u64>) -> Result<(), AllocError>
-    ensures { OnOk result (Adds writer.old writer.new (items_tokens (edges_value edges))) }
-{
-    writer.string("edges")?;
-    moment(writer, edges)?;
-    writer.end_array()
-}
-
-fn exact(writer: &mut Writer, time: u64, bound: Option<u64>) -> Result<(), AllocError>
-    ensures { OnOk result (Adds writer.old writer.new (items_tokens (found_value (FoundAs.Exact time) bound))) }
-{
-    writer.string("exact")?;
-    writer.u64(time)?;
-    edges(writer, bound)
-}
-
-fn within(writer: &mut Writer, low: u64, high: u64, bound: Option<u64>) -> Result<(), AllocError>
-    ensures { OnOk result (Adds writer.old writer.new (items_tokens (found_value (FoundAs.Between low high) bound))) }
-{
-    writer.string("between")?;
-    writer.u64(low)?;
-    writer.u64(high)?;
-    edges(writer, bound)
-}
-
-fn below(writer: &mut Writer, high: u64, bound: Option<u64>) -> Result<(), AllocError>
-    ensures { OnOk result (Adds writer.old writer.new (items_tokens (found_value (FoundAs.AtMost high) bound))) }
-{
-    writer.string("between")?;
-    writer.null()?;
-    writer.u64(high)?;
-    edges(writer, bound)
-}
-
-fn without_pair(writer: &mut Writer, bound: Option<u64>) -> Result<(), AllocError>
-    ensures { OnOk result (Adds writer.old writer.new (items_tokens (found_value FoundAs.NoPair bound))) }
-{
-    writer.string("none")?;
-    edges(writer, bound)
-}
-
-/// What is found of an output, and the end of the array.
-fn found(writer: &mut Writer, found: Found, bound: Option<u64>) -> Result<(), AllocError>
-    ensures { OnOk result (Adds writer.old writer.new (items_tokens (found_value found bound))) }
-{
-    match found {
-        Found::Exact(time) => exact(writer, time, bound),
-        Found::Between { low, high } => within(writer, low, high, bound),
-        Found::AtMost(high) => below(writer, high, bound),
-        Found::NoPair => without_pair(writer, bound),
-    }
-}
-
-impl Valued for Row {
-    ghost value = { row_value };
-
-    fn value(&self, writer: &mut Writer) -> Result<(), AllocError> {
-        writer.begin_array()?;
-        writer.string(self.output.text())?;
-        found(writer, self.found, self.edges)
     }
 }
 

@@ -2,11 +2,10 @@
 
 ghost use Rattle.std.specs.Prelude.{◌≡◌, ◌++◌, List, ℕ, codes, Some, OnOk};
 ghost use Rattle.std.specs.List.{flat_map};
-ghost use Rattle.td_lines.specs.declared.line.Found.TheVariants as FoundAs;
-ghost use Rattle.td_lines.specs.Texts.{unit_line, number_line, delay_line, place_line, place_lines, moment_text, last_line, bound_text, bound_line, figure_key, between_line, cause_line, bit, bits, vector_line, line_text, report_text, word_line, spaced, spaced_moment, at_line, place_text, refused_line, accepted_line, default_line, output_line, level_text, kind_text, by_text, levels_text, changed_text, change_line, found_text, edges_text, row_line, words_text, spaced_word, part_line};
+ghost use Rattle.td_lines.specs.Texts.{unit_line, number_line, delay_line, place_line, place_lines, moment_text, last_line, bound_text, bound_line, figure_key, between_line, cause_line, standing_text, required_line, bit, bits, vector_line, line_text, report_text, word_line, spaced, spaced_moment, at_line, place_text, refused_line, accepted_line, default_line, output_line, level_text, kind_text, by_text, levels_text, changed_text, change_line, words_text, spaced_word, part_line};
 
 use crate::label::Label;
-use crate::line::{Cause, Change, Driver, Figure, Found, Last, Line, Part, Place, Row, Span};
+use crate::line::{Cause, Change, Driver, Figure, Last, Line, Part, Place, Span, Standing};
 use crate::moments::Moments;
 use crate::texts::Text;
 use crate::vector::Vector;
@@ -15,7 +14,7 @@ use td_gates::{Kind, Level};
 use td_nets::Unit;
 
 /// What prints itself.
-trait Printed {
+pub(crate) trait Printed {
     /// Its text.
     ghost text: { Self → List ℕ };
 
@@ -69,7 +68,9 @@ impl Printed for Line {
             Line::From(bits) => vector(out, b"from ", bits),
             Line::To(bits) => vector(out, b"to ", bits),
             Line::Nodes(count) => number(out, b"nodes ", *count),
+            Line::Required(moment, standing) => required(out, *moment, *standing),
             Line::Each(rows) => all(out, rows),
+            Line::Hazards(rows) => all(out, rows),
             Line::Parts(rows) => all(out, rows),
             Line::Accepted(time) => number(out, b"accepted ", *time),
             Line::AcceptedBetween { time, high } => accepted_between(out, *time, *high),
@@ -151,7 +152,7 @@ impl Printed for Last {
     }
 }
 
-fn moment(out: &mut Text, moment: Option<u64>) -> Result<(), AllocError>
+pub(crate) fn moment(out: &mut Text, moment: Option<u64>) -> Result<(), AllocError>
     ensures { OnOk result (out.new ≡ out.old ++ moment_text moment) }
 {
     match moment {
@@ -245,7 +246,7 @@ fn bound(out: &mut Text, figure: Figure, moment: Option<u64>) -> Result<(), Allo
     out.push(b"\n")
 }
 
-fn bound_moment(out: &mut Text, moment: Option<u64>) -> Result<(), AllocError>
+pub(crate) fn bound_moment(out: &mut Text, moment: Option<u64>) -> Result<(), AllocError>
     ensures { OnOk result (out.new ≡ out.old ++ bound_text moment) }
 {
     match moment {
@@ -255,7 +256,7 @@ fn bound_moment(out: &mut Text, moment: Option<u64>) -> Result<(), AllocError>
 }
 
 impl Figure {
-    /// The letter of its line.
+    /// The word of its line.
     pub fn key(self) -> &'static str
         ensures { result.now ≡ figure_key self }
     {
@@ -265,6 +266,7 @@ impl Figure {
             Figure::Both => "m",
             Figure::Edges => "e",
             Figure::EdgesAndPossibles => "n",
+            Figure::Earliest => "earliest",
         }
     }
 }
@@ -283,7 +285,28 @@ fn cause(out: &mut Text, why: Cause) -> Result<(), AllocError>
         Cause::Budget => out.push(b"cause budget\n"),
         Cause::Memory => out.push(b"cause memory\n"),
         Cause::Time => out.push(b"cause time\n"),
+        Cause::Required => out.push(b"cause required\n"),
     }
+}
+
+impl Standing {
+    /// The word of its line.
+    pub fn word(self) -> &'static str
+        ensures { result.now ≡ standing_text self }
+    {
+        match self {
+            Standing::Met => "met",
+            Standing::Violated => "violated",
+            Standing::Open => "open",
+        }
+    }
+}
+
+fn required(out: &mut Text, moment: u64, standing: Standing) -> Result<(), AllocError>
+    ensures { OnOk result (out.new ≡ out.old ++ required_line moment standing) }
+{
+    out.number_behind(b"required ", moment)?;
+    out.word_between(b" ", standing.word(), b"\n")
 }
 
 fn vector(out: &mut Text, front: &[u8], vector: &Vector) -> Result<(), AllocError>
@@ -295,7 +318,7 @@ fn vector(out: &mut Text, front: &[u8], vector: &Vector) -> Result<(), AllocErro
 }
 
 /// A character for each bit of a vector, or `none`.
-fn characters(out: &mut Text, vector: &[bool]) -> Result<(), AllocError>
+pub(crate) fn characters(out: &mut Text, vector: &[bool]) -> Result<(), AllocError>
     ensures { OnOk result (out.new ≡ out.old ++ bits vector.now) }
 {
     if vector.is_empty() {
@@ -305,42 +328,6 @@ fn characters(out: &mut Text, vector: &[bool]) -> Result<(), AllocError>
         out.push(if *bit { b"1" } else { b"0" })?;
     }
     Ok(())
-}
-
-fn found_between(out: &mut Text, low: u64, high: u64) -> Result<(), AllocError>
-    ensures { OnOk result (out.new ≡ out.old ++ found_text (FoundAs.Between low high)) }
-{
-    out.number_behind(b"between ", low)?;
-    out.number_behind(b" ", high)
-}
-
-fn found(out: &mut Text, found: Found) -> Result<(), AllocError>
-    ensures { OnOk result (out.new ≡ out.old ++ found_text found) }
-{
-    match found {
-        Found::Exact(time) => out.number_behind(b"exact ", time),
-        Found::Between { low, high } => found_between(out, low, high),
-        Found::AtMost(high) => out.number_behind(b"between none ", high),
-        Found::NoPair => out.push(b"none"),
-    }
-}
-
-fn edges(out: &mut Text, edges: Option<u64>) -> Result<(), AllocError>
-    ensures { OnOk result (out.new ≡ out.old ++ edges_text edges) }
-{
-    out.push(b" edges ")?;
-    bound_moment(out, edges)?;
-    out.push(b"\n")
-}
-
-impl Printed for Row {
-    ghost text = { row_line };
-
-    fn print(&self, out: &mut Text) -> Result<(), AllocError> {
-        out.word_between(b"each ", self.output.text(), b" ")?;
-        found(out, self.found)?;
-        edges(out, self.edges)
-    }
 }
 
 impl Printed for Label {

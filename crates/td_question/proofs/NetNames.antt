@@ -1,5 +1,5 @@
 -- Nets by their printed names.
-use Rattle.std.proofs.Common.{◌≡◌, ◌≢◌, ◌∙◌, ℕ, zero, suc, ◌+◌, ◌-◌, ◌<◌, ◌≤◌, Bool, true, false, List, [], ◌∷◌, ◌++◌, length, map, get_or, replicate, arith, refl, sym, ap, subst, inl, inr, length-append}
+use Rattle.std.proofs.Common.{◌≡◌, ◌≢◌, ◌∙◌, ℕ, zero, suc, ◌+◌, ◌-◌, ◌<◌, ◌≤◌, Bool, true, false, List, [], ◌∷◌, ◌++◌, length, map, replicate, arith, refl, sym, ap, subst, inl, inr, length-append}
 use Rattle.std.specs.Prelude.{slice_get, slice_set, slice_index_or, is_some, ◌||◌, Option, Some, None, if◌then◌else◌}
 use Rattle.std.specs.List.{Contains, list_any, position_from}
 use Rattle.std.specs.Borrow.{Bor}
@@ -16,8 +16,8 @@ use Rattle.td_circuit.specs.Numbering.{Numbered, nets, first_output, IsNumbering
 use Rattle.td_circuit.proofs.Sorting.{named_same}
 use Rattle.td_spans.specs.Lookups.{net_named}
 use Rattle.td_refutation.specs.Asking.{net_at}
-use Rattle.td_refutation.proofs.Asking.{IsNetAt, net_is_at}
-use Rattle.td_question.specs.Keeping.{NoneBefore, IsFirstNet, HasNoNet, count_nets}
+use Rattle.td_refutation.proofs.Asking.{net_is_at}
+use Rattle.td_question.specs.Keeping.{NoneBefore, count_nets}
 use Rattle.td_question.specs.Found.{place_in, number_at, number_in, IsPrinted, or_number, IsNoted, IsFound, AreFound, IsFoundBefore, AreFoundBefore}
 
 -- ---- places of names

@@ -1,6 +1,6 @@
 -- Conditions in order, each of them once.
-use Rattle.std.proofs.Common.{◌≡◌, ◌∙◌, ℕ, zero, suc, ◌+◌, ◌-◌, ◌*◌, ◌<◌, ◌≤◌, Bool, true, false, List, [], ◌∷◌, ◌++◌, length, arith, refl, sym, ap, subst, inl, inr, length-append, append_assoc}
-use Rattle.std.specs.Prelude.{◌⊎◌, ◌↔◌, ◌&&◌, ◌||◌, ◌==◌, nat_lt, nat_le, slice_get, Option, Some, None}
+use Rattle.std.proofs.Common.{◌≡◌, ◌∙◌, ℕ, zero, suc, ◌+◌, ◌-◌, ◌<◌, ◌≤◌, Bool, true, false, List, [], ◌∷◌, ◌++◌, length, arith, refl, sym, ap, subst, inl, inr, length-append, append_assoc}
+use Rattle.std.specs.Prelude.{◌&&◌, ◌||◌, ◌==◌, nat_lt, nat_le, slice_get, Some, None}
 use Rattle.std.specs.List.{Contains}
 use Rattle.std.specs.List.Sorted.{IsPermutation, IsNonDecreasingBy}
 use Rattle.std.proofs.lemmas.Bool.{cases_lt, lt-ltb, le-leb, eq-eqb, and_parts, and_from}
@@ -14,7 +14,7 @@ use Rattle.td_spans.specs.declared.condition.Form.TheVariants.{Levels, Equal}
 use Rattle.td_refutation.specs.declared.conditions.NamedCondition.{NamedCondition}
 use Rattle.td_certificate.specs.Text.{level_byte}
 use Rattle.td_certificate.specs.Accepts.{form_order, is_before, are_fit}
-use Rattle.td_question.specs.Found.{condition_order, IsLastOf, IsPushed, AreOnNets, IsLastBefore, IsKeptTo, AreInOrder}
+use Rattle.td_question.specs.Found.{condition_order, IsLastOf, IsPushed, IsKeptTo, AreInOrder}
 
 -- ---- places of conditions
 

@@ -1,6 +1,6 @@
 -- What the words of a search ask of a text.
 use Rattle.std.proofs.Common.{◌≡◌, ◌∙◌, ℕ, ◌≤◌, ◌+◌, ◌*◌, ◌<◌, suc, List, [], ◌∷◌, ◌++◌, length, map, take, get_or, arith, refl, sym, ap, subst, inl, inr}
-use Rattle.std.specs.Prelude.{Option, None, Some, slice_get}
+use Rattle.std.specs.Prelude.{Option, None, Some, Result, Ok, Err, IfOk, IfErr, slice_get}
 use Rattle.std.proofs.lemmas.List.{map-append, take_more}
 use Rattle.td_reading.specs.declared.reading.Reading.{Reading}
 use Rattle.td_nets.specs.Netlist.{Name, Netlist, Named}
@@ -22,7 +22,11 @@ use Rattle.td_gates.specs.declared.primitives.Level.{Level}
 use Rattle.td_question.specs.declared.vector.VectorWord.{VectorWord}
 use Rattle.td_question.specs.declared.vector.VectorWord.TheVariants.{At}
 use Rattle.td_question.specs.Vectors.{level_character, SpellsVector, VectorWords, IsFirstBad, AreMomentsOf, GivesMoments}
-use Rattle.td_question.specs.Asking.{most_flips, Admits, AreAdmitted, SayTogether, IsAsked, IsCube, IsPair, Pins, ArePinned, AreSpelled, IsWordFault, IsFaultOf, IsFaultOfAny, IsKeepFault, IsQuestionFault, keep_words, pair_words, placed_words}
+use Rattle.td_question.specs.Asking.{most_flips, Admits, AreAdmitted, SayTogether, IsAsked, IsCube, IsPair, Pins, ArePinned, AreSpelled, IsWordFault, IsFaultOf, IsFaultOfAny, IsFaultOfQuestion, IsKeepFault, IsQuestionFault, keep_quotes, pair_words, placed_words}
+use Rattle.td_question.specs.declared.keeping.KeepFault.{KeepFault}
+use Rattle.td_question.specs.declared.keeping.KeepFault.TheVariants as keep_fault_of
+use Rattle.td_question.specs.Keeping.{IsFirstFault}
+use Rattle.td_question.specs.KeepLines.{Quote}
 use Rattle.td_question.specs.declared.fault.QuestionFault.{QuestionFault}
 use Rattle.td_question.specs.declared.fault.QuestionFault.TheVariants as fault
 use Rattle.td_question.proofs.Vectors.{given-length}
@@ -89,16 +93,18 @@ module _ (text : List ℕ) (reading : Reading) (question : Question) where
   pair_fault (fault.BadVector word) is = is
   pair_fault (fault.BadKeep word) is = absurd is
   pair_fault (fault.NoNet name) is = absurd is
+  pair_fault fault.LongKeepFile is = absurd is
 
-  -- a fault of the words of conditions, where the others ask something
+  -- a fault of the conditions, where the words about inputs ask something
   pub keep_fault : (setting : Setting) (admit : Admitted) → IsAsked text reading question setting admit → (found : QuestionFault)
-      → IsKeepFault setting.netlist (keep_words question.inputs) found → IsQuestionFault text reading question found
+      → IsKeepFault setting.netlist question found → IsQuestionFault text reading question found
   keep_fault setting admit asked fault.OutOfMemory is = tt
   keep_fault setting admit asked (fault.Source source) is = absurd is
   keep_fault setting admit asked (fault.BadName wrong names) is = absurd is
   keep_fault setting admit asked (fault.BadVector word) is = absurd is
-  keep_fault setting admit asked (fault.BadKeep word) is = record { setting = setting; admit = admit; asked = asked; first = is }
-  keep_fault setting admit asked (fault.NoNet name) is = record { setting = setting; admit = admit; asked = asked; first = is }
+  keep_fault setting admit asked (fault.BadKeep word) is = record { setting = setting; admit = admit; asked = asked; wrong_is = is }
+  keep_fault setting admit asked (fault.NoNet name) is = record { setting = setting; admit = admit; asked = asked; wrong_is = is }
+  keep_fault setting admit asked fault.LongKeepFile is = record { setting = setting; admit = admit; asked = asked; wrong_is = is }
 
   -- the pairs are of the circuit's inputs
   pub asked_held : (setting : Setting) (admit : Admitted) → IsAsked text reading question setting admit → length admit.held ≡ length setting.netlist.inputs
@@ -121,6 +127,7 @@ any_fault text reading inputs words_by (fault.BadName wrong names) is = is
 any_fault text reading inputs words_by (fault.BadVector word) is = record { netlist = is.netlist; circuit = is.circuit; bad = inr is.unread }
 any_fault text reading inputs words_by (fault.BadKeep word) is = absurd is
 any_fault text reading inputs words_by (fault.NoNet name) is = absurd is
+any_fault text reading inputs words_by fault.LongKeepFile is = absurd is
 
 module _ (text : List ℕ) (reading : Reading) (inputs : Inputs) (netlist : Netlist) (words : Placed) (circuit : HasCircuit text reading netlist)
     (together : SayTogether netlist inputs words) where
@@ -153,6 +160,26 @@ module _ (text : List ℕ) (reading : Reading) (inputs : Inputs) (netlist : Netl
   word_fault words_by (fault.BadVector word) is = record { netlist = netlist; circuit = circuit; bad = inl (words, together, is) }
   word_fault words_by (fault.BadKeep word) is = absurd is
   word_fault words_by (fault.NoNet name) is = absurd is
+  word_fault words_by fault.LongKeepFile is = absurd is
+
+-- the first of the quotes that says no condition is what is wrong with a question
+never_long : (netlist : Netlist) (quotes : List Quote) → IsFirstFault netlist quotes keep_fault_of.TooLong → ⊥
+never_long netlist [] is = is
+never_long netlist (quote ∷ quotes) (inl here) = here
+never_long netlist (quote ∷ quotes) (inr later) = never_long netlist quotes later.1
+
+pub first_wrong : (netlist : Netlist) (question : Question) (wrong : KeepFault) → IsFirstFault netlist (keep_quotes question) wrong
+    → IsFaultOfQuestion netlist question wrong
+first_wrong netlist question (keep_fault_of.Bad quote) is = is
+first_wrong netlist question (keep_fault_of.NoNet name) is = is
+first_wrong netlist question keep_fault_of.TooLong is = absurd (never_long netlist (keep_quotes question) is)
+
+pub wrong_first : {T E : Type 0} (netlist : Netlist) (question : Question) (result : Result (Result T KeepFault) E)
+    → IfOk result (λ reported. IfErr reported (IsFirstFault netlist (keep_quotes question)))
+    → IfOk result (λ reported. IfErr reported (IsFaultOfQuestion netlist question))
+wrong_first netlist question (Ok (Ok said)) is = tt
+wrong_first netlist question (Ok (Err wrong)) is = first_wrong netlist question wrong is
+wrong_first netlist question (Err fault) is = tt
 
 -- of the pins of a cube there are two for each input
 pub pins_length : (count : ℕ) (words : Placed) (cube : List Trit) → Pins count words cube → length cube ≡ 2 * count

@@ -1,5 +1,6 @@
 -- What a request asks of a netlist's text.
-use Rattle.std.specs.Prelude.{◌≡◌, ◌⊎◌, ℕ, min, List, [], ◌∷◌, ◌++◌, length, map, Option, Some, None}
+use Rattle.std.specs.Prelude.{◌≡◌, ◌⊎◌, ℕ, min, nat_lt, Bool, true, false, List, [], ◌∷◌, ◌++◌, length, map, Option, Some, None}
+use Rattle.std.specs.Borrow.{Bor}
 use Rattle.td_reading.specs.declared.reading.Reading.{Reading}
 use Rattle.td_nets.specs.Netlist.{Netlist}
 use Rattle.td_gates.specs.declared.primitives.Level.{Level}
@@ -22,6 +23,7 @@ use Rattle.td_question.specs.declared.fault.QuestionFault.{QuestionFault}
 use Rattle.td_question.specs.declared.fault.QuestionFault.TheVariants as fault
 use Rattle.td_question.specs.declared.keeping.KeepFault.{KeepFault}
 use Rattle.td_question.specs.declared.keeping.KeepFault.TheVariants as keep_fault
+use Rattle.td_question.specs.KeepLines.{Quote, file_quotes, word_quote}
 use Rattle.td_question.specs.Keeping.{keep_texts, AreConditions, IsFirstFault}
 use Rattle.td_question.specs.declared.vector.VectorWord.{VectorWord}
 use Rattle.td_question.specs.declared.vector.VectorWord.TheVariants.{From, To, First, Second, Hold, At}
@@ -69,14 +71,15 @@ pub record IsAsked (text : List ℕ) (reading : Reading) (question : Question) (
   pub moments : AreMomentsOf (length setting.netlist.inputs) words.at setting.moments
   pub admits : Admits (length setting.netlist.inputs) words question.flips admit
 
--- the words of conditions, in order
-abbrev pub keep_words : Inputs → List (List ℕ)
-keep_words inputs = keep_texts (taken_of inputs)
+-- what is said of conditions: the words in order, and then the lines of the file
+abbrev pub keep_quotes : Question → List Quote
+keep_quotes question = map word_quote (keep_texts (taken_of question.inputs)) ++ file_quotes question.keep_text
 
--- What the words ask of a text, with the conditions that they say on nets of its netlist.
+-- What the words ask of a text, with the conditions that they and the lines of their file say on nets
+-- of its netlist.
 pub record IsAskedKeeping (text : List ℕ) (reading : Reading) (question : Question) (setting : Setting) (asking : Asking) : Type 0 where
   pub asked : IsAsked text reading question setting asking.admit
-  pub keep : AreConditions setting.netlist (keep_words question.inputs) asking.keep
+  pub keep : AreConditions setting.netlist (keep_quotes question) asking.keep
 
 -- ---- why there is no question
 
@@ -117,28 +120,41 @@ IsFaultOf text reading inputs words_by (fault.BadName wrong labels) = HasBadName
 IsFaultOf text reading inputs words_by (fault.BadVector word) = HasBadWord text reading inputs words_by word
 IsFaultOf text reading inputs words_by (fault.BadKeep word) = ⊥
 IsFaultOf text reading inputs words_by (fault.NoNet name) = ⊥
+IsFaultOf text reading inputs words_by fault.LongKeepFile = ⊥
 
--- The text and the words about inputs ask something, and this is wrong with the first word of a
--- condition that says none of the netlist.
+-- a file of conditions has more bytes than it may have
+abbrev pub is_too_long : Option (Bor (List ℕ)) → Bool
+is_too_long None = false
+is_too_long (Some text) = nat_lt 67108864 (length text.now)
+
+-- this is wrong with the file of conditions, or with the first word or line of a condition that says
+-- none of the netlist
+abbrev pub IsFaultOfQuestion : Netlist → Question → KeepFault → Type 0
+IsFaultOfQuestion netlist question keep_fault.TooLong = is_too_long question.keep_text ≡ true
+IsFaultOfQuestion netlist question wrong = IsFirstFault netlist (keep_quotes question) wrong
+
+-- The text and the words about inputs ask something, and this is wrong with the conditions.
 pub record HasBadCondition (text : List ℕ) (reading : Reading) (question : Question) (wrong : KeepFault) : Type 0 where
   pub setting : Setting
   pub admit : Admitted
   pub asked : IsAsked text reading question setting admit
-  pub first : IsFirstFault setting.netlist (keep_words question.inputs) wrong
+  pub wrong_is : IsFaultOfQuestion setting.netlist question wrong
 
 -- Why there is no question: the fault of the text and the words about inputs, or, where they have
--- none, that of the words of conditions.
+-- none, that of the conditions.
 abbrev pub IsQuestionFault : List ℕ → Reading → Question → QuestionFault → Type 0
-IsQuestionFault text reading question (fault.BadKeep word) = HasBadCondition text reading question (keep_fault.Bad word)
+IsQuestionFault text reading question (fault.BadKeep quote) = HasBadCondition text reading question (keep_fault.Bad quote)
 IsQuestionFault text reading question (fault.NoNet name) = HasBadCondition text reading question (keep_fault.NoNet name)
+IsQuestionFault text reading question fault.LongKeepFile = HasBadCondition text reading question keep_fault.TooLong
 IsQuestionFault text reading question found = IsFaultOf text reading question.inputs placed_words found
 
--- this is wrong with the first word of a condition that says none of the netlist
-abbrev pub IsKeepFault : Netlist → List (List ℕ) → QuestionFault → Type 0
-IsKeepFault netlist words fault.OutOfMemory = Unit {0}
-IsKeepFault netlist words (fault.BadKeep word) = IsFirstFault netlist words (keep_fault.Bad word)
-IsKeepFault netlist words (fault.NoNet name) = IsFirstFault netlist words (keep_fault.NoNet name)
-IsKeepFault netlist words other = ⊥
+-- this is wrong with what is said of conditions
+abbrev pub IsKeepFault : Netlist → Question → QuestionFault → Type 0
+IsKeepFault netlist question fault.OutOfMemory = Unit {0}
+IsKeepFault netlist question (fault.BadKeep quote) = IsFaultOfQuestion netlist question (keep_fault.Bad quote)
+IsKeepFault netlist question (fault.NoNet name) = IsFaultOfQuestion netlist question (keep_fault.NoNet name)
+IsKeepFault netlist question fault.LongKeepFile = IsFaultOfQuestion netlist question keep_fault.TooLong
+IsKeepFault netlist question other = ⊥
 
 -- the netlist that is read of the text has no loop, and a word by place into which words by name were
 -- to be merged gives nothing for its inputs
@@ -155,6 +171,7 @@ IsFaultOfAny text reading inputs (fault.BadName wrong labels) = HasBadName text 
 IsFaultOfAny text reading inputs (fault.BadVector word) = HasUnread text reading inputs
 IsFaultOfAny text reading inputs (fault.BadKeep word) = ⊥
 IsFaultOfAny text reading inputs (fault.NoNet name) = ⊥
+IsFaultOfAny text reading inputs fault.LongKeepFile = ⊥
 
 -- ---- cubes and pairs
 

@@ -8,18 +8,23 @@ use Rattle.td_spans.specs.declared.condition.Form.{Form}
 use Rattle.td_spans.specs.declared.condition.Form.TheVariants.{Levels, Equal}
 use Rattle.td_refutation.specs.declared.conditions.NamedCondition.{NamedCondition}
 use Rattle.td_refutation.specs.Asking.{net_at}
-use Rattle.td_certificate.specs.Text.{level_byte}
+use Rattle.td_certificate.specs.Text.{form_text, level_byte}
 use Rattle.td_certificate.specs.Accepts.{form_order, are_fit}
-use Rattle.td_question.specs.Keeping.{is_asking, HasParts, NoneBefore, IsFirstNet, HasNoNet, SaysCondition}
+use Rattle.td_question.specs.KeepLines.{Quote}
+use Rattle.td_question.specs.Keeping.{is_asking, Spells, NoneBefore, IsFirstNet, HasNoNet, SaysCondition}
 
 -- these characters ask for the levels of this form, of which not both may be any
 abbrev pub AreLevels : ℕ → ℕ → Form → Type 0
 AreLevels first second (Levels before after) = (first ≡ level_byte before) × (second ≡ level_byte after) × (is_asking (Levels before after) ≡ true)
 AreLevels first second Equal = ⊥
 
--- the names of the words that name a net
-abbrev pub AreNames : List (List ℕ) → List (List ℕ) → Type 0
-AreNames words names = (word name : List ℕ) (form : Form) → Contains words word → HasParts word name form → Contains names name
+-- these characters ask this of a net
+abbrev pub AsksForm : ℕ → ℕ → Form → Type 0
+AsksForm first second form = (first ∷ second ∷ [] ≡ form_text form) × (is_asking form ≡ true)
+
+-- the names of the words and lines that name a net
+abbrev pub AreNames : List Quote → List (List ℕ) → Type 0
+AreNames quotes names = (quote : Quote) (name : List ℕ) (form : Form) → Contains quotes quote → Spells quote name form → Contains names name
 
 -- ---- nets by their names
 
@@ -70,11 +75,11 @@ pub record AreFoundBefore (netlist : Netlist) (count : ℕ) (names : List (List 
 
 -- ---- conditions in order
 
--- the condition that each word says
-abbrev pub AreSaid : Netlist → List (List ℕ) → List NamedCondition → Type 0
+-- the condition that each word and line says
+abbrev pub AreSaid : Netlist → List Quote → List NamedCondition → Type 0
 AreSaid netlist [] [] = Unit {0}
-AreSaid netlist (word ∷ words) (condition ∷ said) = SaysCondition netlist word condition × AreSaid netlist words said
-AreSaid netlist words said = ⊥
+AreSaid netlist (quote ∷ quotes) (condition ∷ said) = SaysCondition netlist quote condition × AreSaid netlist quotes said
+AreSaid netlist quotes said = ⊥
 
 -- a condition's place among others, by its net, and then by the bytes of its form
 abbrev pub condition_order : NamedCondition → ℕ

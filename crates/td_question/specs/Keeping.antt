@@ -1,5 +1,6 @@
--- Words of conditions on nets: what each says of a netlist, and what all say together.
-use Rattle.std.specs.Prelude.{◌≡◌, ◌≢◌, ◌⊎◌, ℕ, ◌+◌, ◌<◌, Bool, true, false, List, [], ◌∷◌, ◌++◌, length, codes, Some, if◌then◌else◌}
+-- Words and lines of conditions on nets: what each says of a netlist, and what all say together.
+use Rattle.std.specs.Prelude.{◌≡◌, ◌≢◌, ◌⊎◌, ℕ, ◌+◌, ◌<◌, Bool, true, false, List, [], ◌∷◌, ◌++◌, length, codes, Option, Some, None, if◌then◌else◌}
+use Rattle.std.specs.Char.{is_ascii_whitespace}
 use Rattle.std.specs.List.{Contains}
 use Rattle.td_gates.specs.declared.primitives.Level.TheVariants.{X}
 use Rattle.td_nets.specs.Netlist.{Name, Named, Netlist}
@@ -13,6 +14,7 @@ use Rattle.td_refutation.specs.declared.conditions.NamedCondition.{NamedConditio
 use Rattle.td_refutation.specs.Asking.{net_at}
 use Rattle.td_certificate.specs.Text.{form_text}
 use Rattle.td_certificate.specs.Accepts.{are_fit}
+use Rattle.td_question.specs.KeepLines.{Quote, end_trimmed, quote_in}
 use Rattle.td_question.specs.declared.keeping.KeepFault.{KeepFault}
 use Rattle.td_question.specs.declared.keeping.KeepFault.TheVariants as fault
 
@@ -33,6 +35,25 @@ pub record HasParts (word name : List ℕ) (form : Form) : Type 0 where
   pub spelled : word ≡ keep_word name form
   pub named : 0 < length name
   pub asks : is_asking form ≡ true
+
+-- The last field of the line asks this, and what stands before it, without the blanks at its end, is
+-- this name of a net.
+pub record HasFields (line name : List ℕ) (form : Form) : Type 0 where
+  pub front : List ℕ
+  pub blank : ℕ
+  pub spelled : line ≡ front ++ blank ∷ form_text form
+  pub apart : is_ascii_whitespace blank ≡ true
+  pub name_is : name ≡ end_trimmed front
+  pub named : 0 < length name
+  pub asks : is_asking form ≡ true
+
+abbrev pub SpellsAt : Option ℕ → List ℕ → List ℕ → Form → Type 0
+SpellsAt None text name form = HasParts text name form
+SpellsAt (Some number) text name form = HasFields text name form
+
+-- the word, or the line of a file, names this net and asks this of it
+abbrev pub Spells : Quote → List ℕ → Form → Type 0
+Spells quote name form = SpellsAt quote.line quote.text name form
 
 -- the words of conditions among those of options by name, in order
 abbrev pub keep_texts : List Taken → List (List ℕ)
@@ -59,34 +80,38 @@ HasNoNet netlist name = (number : ℕ) (net : Name) → net_at netlist number �
 
 -- ---- conditions
 
--- the word says this condition on a net of the netlist
-pub record SaysCondition (netlist : Netlist) (word : List ℕ) (condition : NamedCondition) : Type 0 where
+-- the word or line says this condition on a net of the netlist
+pub record SaysCondition (netlist : Netlist) (quote : Quote) (condition : NamedCondition) : Type 0 where
   pub name : List ℕ
-  pub parts : HasParts word name condition.form
+  pub parts : Spells quote name condition.form
   pub net : IsFirstNet netlist name condition.net
 
 -- the number of the netlist's nets, the two constants among them
 abbrev pub count_nets : Netlist → ℕ
 count_nets netlist = 2 + length netlist.inputs + length netlist.gates
 
--- These are the conditions that the words say, each of them once, in the order of a certificate.
-pub record AreConditions (netlist : Netlist) (words : List (List ℕ)) (keep : List NamedCondition) : Type 0 where
+-- These are the conditions that the words and lines say, each of them once, in the order of a
+-- certificate.
+pub record AreConditions (netlist : Netlist) (quotes : List Quote) (keep : List NamedCondition) : Type 0 where
   pub rising : are_fit (count_nets netlist) keep ≡ true
   pub said : (condition : NamedCondition) → Contains keep condition
-      → (word : List ℕ) × Contains words word × SaysCondition netlist word condition
-  pub each : (word : List ℕ) → Contains words word
-      → (condition : NamedCondition) × Contains keep condition × SaysCondition netlist word condition
+      → (quote : Quote) × Contains quotes quote × SaysCondition netlist quote condition
+  pub each : (quote : Quote) → Contains quotes quote
+      → (condition : NamedCondition) × Contains keep condition × SaysCondition netlist quote condition
 
--- ---- words that say none
+-- ---- words and lines that say none
 
--- this is wrong with the word: it names no net and asks nothing, or there is no net of the name
-abbrev pub IsFaultOfWord : Netlist → List ℕ → KeepFault → Type 0
-IsFaultOfWord netlist word (fault.Bad text) = (text.now ≡ word) × ((name : List ℕ) (form : Form) → ¬ HasParts word name form)
-IsFaultOfWord netlist word (fault.NoNet name) = (form : Form) × HasParts word name.now form × HasNoNet netlist name.now
+-- this is wrong with the word or line: it names no net and asks nothing, or there is no net of the
+-- name
+abbrev pub IsFaultOfQuote : Netlist → Quote → KeepFault → Type 0
+IsFaultOfQuote netlist quote (fault.Bad told) = (quote_in told ≡ quote) × ((name : List ℕ) (form : Form) → ¬ Spells quote name form)
+IsFaultOfQuote netlist quote (fault.NoNet told) =
+    (told.line ≡ quote.line) × ((form : Form) × Spells quote told.text.now form × HasNoNet netlist told.text.now)
+IsFaultOfQuote netlist quote fault.TooLong = ⊥
 
--- this is wrong with the first of the words that says no condition
-abbrev pub IsFirstFault : Netlist → List (List ℕ) → KeepFault → Type 0
+-- this is wrong with the first of the words and lines that says no condition
+abbrev pub IsFirstFault : Netlist → List Quote → KeepFault → Type 0
 IsFirstFault netlist [] wrong = ⊥
-IsFirstFault netlist (word ∷ words) wrong =
-    IsFaultOfWord netlist word wrong
-    ⊎ (((condition : NamedCondition) × SaysCondition netlist word condition) × IsFirstFault netlist words wrong)
+IsFirstFault netlist (quote ∷ quotes) wrong =
+    IsFaultOfQuote netlist quote wrong
+    ⊎ (((condition : NamedCondition) × SaysCondition netlist quote condition) × IsFirstFault netlist quotes wrong)

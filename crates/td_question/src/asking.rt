@@ -1,11 +1,10 @@
 //! What a request asks of a netlist's text.
 
-ghost use Rattle.std.specs.Prelude.{◌≡◌, ◌<◌, ◌^◌, length, map, option_map, IfOk, IfErr};
+ghost use Rattle.std.specs.Prelude.{◌≡◌, ◌<◌, ◌^◌, length, option_map, IfOk, IfErr};
 ghost use Rattle.td_circuit.specs.Numbering.{setting};
 ghost use Rattle.td_inputs.specs.Placings.{words_by_place};
-ghost use Rattle.td_inputs.specs.Scans.{taken_in};
-ghost use Rattle.td_question.specs.Asking.{most_flips, Admits, AreAdmitted, IsAsked, SayTogether, keep_words, pair_words, placed_words, IsWordFault, IsFaultOf, IsKeepFault, IsQuestionFault};
-ghost use Rattle.td_question.specs.Keeping.{AreConditions, keep_texts};
+ghost use Rattle.td_question.specs.Asking.{most_flips, Admits, AreAdmitted, IsAsked, SayTogether, keep_quotes, pair_words, placed_words, IsWordFault, IsFaultOf, IsKeepFault, IsQuestionFault};
+ghost use Rattle.td_question.specs.Keeping.{AreConditions};
 ghost use Rattle.td_question.specs.Vectors.{IsFirstBad};
 ghost use Rattle.td_source.specs.Reads.{AreOutputsOf};
 
@@ -17,7 +16,7 @@ use crate::vector::{VectorWord, given};
 use std::alloc::{AllocError, Global};
 use td_circuit::Circuit;
 use td_domain::{Admit, Cube, Trit};
-use td_inputs::{ByPlace, Taken};
+use td_inputs::ByPlace;
 use td_reading::Reading;
 use td_refutation::NamedCondition;
 use td_request::Question;
@@ -41,7 +40,8 @@ pub struct Asked {
 /// # Errors
 ///
 /// As of `placed_on`; or the first word that gives nothing for the inputs; or, where there is none,
-/// the first word of a condition that says none of the circuit.
+/// a file of conditions that is too long, or the first word or line of a condition that says none
+/// of the circuit.
 pub fn question_of<'a, 'w>(
     alloc: Global,
     text: &'a [u8],
@@ -51,11 +51,11 @@ pub fn question_of<'a, 'w>(
     ensures asked { IfOk result (λ asked. IsAsked text.now reading.now question.now (setting asked.circuit) asked.admit) }
     ensures outputs { IfOk result (λ asked. AreOutputsOf text.now reading.now (option_map (λ numbers. numbers.items) asked.outputs)) }
     ensures together { IfOk result (λ asked. SayTogether asked.circuit.netlist question.now.inputs (words_by_place asked.words)) }
-    ensures keep { IfOk result (λ asked. AreConditions asked.circuit.netlist (keep_words question.now.inputs) asked.keep.items) }
+    ensures keep { IfOk result (λ asked. AreConditions asked.circuit.netlist (keep_quotes question.now) asked.keep.items) }
     ensures fault { IfErr result (IsQuestionFault text.now reading.now question.now) }
 {
     match pairs_of(alloc, text, reading, question) {
-        Ok(asked) => keeping(alloc, asked, question.inputs.named),
+        Ok(asked) => keeping(alloc, asked, question),
         Err(fault) => Err(fault),
     }
 }
@@ -112,17 +112,17 @@ fn asked_by<'a, 'w>(
     }
 }
 
-/// What is asked, with the conditions that words of options by name say.
+/// What is asked, with the conditions that a question says.
 fn keeping<'a, 'w>(
     alloc: Global,
     asked: Asked,
-    named: &[Taken<'w>],
+    question: &Question<'w>,
 ) -> Result<Asked, QuestionFault<'a, 'w>>
     ensures same { IfOk result (λ kept. (kept.circuit ≡ asked.circuit) × (kept.admit ≡ asked.admit) × (kept.outputs ≡ asked.outputs) × (kept.words ≡ asked.words)) }
-    ensures keep { IfOk result (λ kept. AreConditions kept.circuit.netlist (keep_texts (map taken_in named.now)) kept.keep.items) }
-    ensures fault { IfErr result (IsKeepFault asked.circuit.netlist (keep_texts (map taken_in named.now))) }
+    ensures keep { IfOk result (λ kept. AreConditions kept.circuit.netlist (keep_quotes question.now) kept.keep.items) }
+    ensures fault { IfErr result (IsKeepFault asked.circuit.netlist question.now) }
 {
-    match conditions_of(alloc, &asked.circuit, named)? {
+    match conditions_of(alloc, &asked.circuit, question)? {
         Ok(keep) => Ok(Asked {
             circuit: asked.circuit,
             admit: asked.admit,
@@ -130,8 +130,9 @@ fn keeping<'a, 'w>(
             words: asked.words,
             keep,
         }),
-        Err(KeepFault::Bad(word)) => Err(QuestionFault::BadKeep(word)),
+        Err(KeepFault::Bad(quote)) => Err(QuestionFault::BadKeep(quote)),
         Err(KeepFault::NoNet(name)) => Err(QuestionFault::NoNet(name)),
+        Err(KeepFault::TooLong) => Err(QuestionFault::LongKeepFile),
     }
 }
 

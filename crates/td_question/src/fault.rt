@@ -1,5 +1,6 @@
 //! Why a text and words give no question.
 
+use crate::quote::Quote;
 use crate::vector::VectorWord;
 use std::alloc::AllocError;
 use td_inputs::{Label, WordFault};
@@ -7,15 +8,16 @@ use td_source::SourceFault;
 
 /// Why a text and words give no question: the text's fault, what is wrong with a word about inputs
 /// by name, for inputs that are called so, a word that gives nothing for the netlist's inputs, a word
-/// that is no condition, or one that names no net.
+/// or a line that is no condition, one that names no net, or a file of conditions that is too long.
 #[derive(Drop)]
 pub enum QuestionFault<'a, 'w> {
     OutOfMemory,
     Source(SourceFault<'a>),
     BadName(WordFault<'w>, Vec<Label>),
     BadVector(VectorWord),
-    BadKeep(&'w [u8]),
-    NoNet(&'w [u8]),
+    BadKeep(Quote<'w>),
+    NoNet(Quote<'w>),
+    LongKeepFile,
 }
 
 impl<'a, 'w> From<AllocError> for QuestionFault<'a, 'w> {

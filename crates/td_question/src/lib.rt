@@ -2,17 +2,19 @@
 //!
 //!     text ──▶ netlist ──▶ circuit, with moments
 //!     words, by place and by name ──▶ admitted pairs of its inputs
-//!     words of conditions, by name ──▶ conditions on its nets, by number
+//!     words and lines of conditions, by name ──▶ conditions on its nets, by number
 #![tactic(auto)]
 
 mod asking;
 mod cube;
 mod fault;
+mod keep_lines;
 mod keeping;
 mod names;
 mod net_names;
 mod pair;
 mod placed;
+mod quote;
 mod rising;
 pub mod timing;
 pub mod vector;
@@ -22,3 +24,5 @@ pub use cube::{CubeAsked, cube_of};
 pub use fault::QuestionFault;
 pub use keeping::words_of;
 pub use pair::{PairAsked, pair_of};
+pub use quote::Quote;
+pub use rising::in_order;

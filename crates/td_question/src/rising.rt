@@ -66,10 +66,7 @@ fn once(alloc: Global, sorted: &[NamedCondition]) -> Result<Vec<NamedCondition>,
 }
 
 /// These conditions, each once, in the order of a certificate. The error is out of memory.
-pub(crate) fn in_order(
-    alloc: Global,
-    said: Vec<NamedCondition>,
-) -> Result<Vec<NamedCondition>, AllocError>
+pub fn in_order(alloc: Global, said: Vec<NamedCondition>) -> Result<Vec<NamedCondition>, AllocError>
     ensures { IfOk result (λ kept. AreInOrder said.items kept.items) }
 {
     let mut sorted = said;

@@ -17,6 +17,9 @@ pub struct Effort<'a> {
     pub alone: u64,
     /// The memory that it takes at most by its own account, in words of 4 bytes.
     pub words: u64,
+    /// A moment, in steps: the search ends once a pair is later, or none can be. Where there is
+    /// none, it ends once the latest pair is known.
+    pub required: Option<u64>,
     /// Once it is set, the search ends.
     pub stop: &'a Stop,
 }
@@ -31,6 +34,7 @@ impl<'a> Effort<'a> {
             workers: 1,
             alone: 300_000_000,
             words: u64::MAX,
+            required: None,
             stop,
         }
     }

@@ -24,6 +24,28 @@ pub struct Findings {
     pub ending: Ending,
 }
 
+// How many gates the first climb simulates where a pair is enough under which an output changes at
+// all.
+const FEW_GATES: u64 = 20_000;
+
+// How much the search does.
+fn limits_of(known: u64, effort: Effort<'_>) -> Limits {
+    let mut limits = Limits {
+        known,
+        words: effort.words,
+        alone: effort.alone,
+        ..Limits::of_work(effort.work)
+    };
+    if let Some(required) = effort.required {
+        limits.known = known.max(required);
+        limits.enough = required;
+        if required == 0 {
+            limits.climb = FEW_GATES;
+        }
+    }
+    limits
+}
+
 /// Searches for admitted pairs that keep conditions and are later than a known one, by its delay. It
 /// begins with a pair of its own, whose levels its solver tries first: near a late pair later ones
 /// are rare. The error is out of memory before anything was found.
@@ -42,12 +64,7 @@ pub fn search<R: Threads + Sync>(
     let mut admitted = Admitted::new(alloc, &network, admit)?;
     admitted.conditions = conditions_in(alloc, circuit, admit, keep)?;
     let times = times_in(alloc, circuit, admit)?;
-    let limits = Limits {
-        known,
-        words: effort.words,
-        alone: effort.alone,
-        ..Limits::of_work(effort.work)
-    };
+    let limits = limits_of(known, effort);
     let search = Search::new(alloc, &network, &admitted, &times, limits, effort.stop)?;
     let mut team = Team::new(search, effort.workers as usize)?;
     let ended = team.run(rt);

@@ -2,7 +2,7 @@
 //!
 //!     Request ─┬─ file, reading (default delay, outputs), form, hints
 //!              └─ command ─┬─ Sim, Path, Bound, Check, Join, Info
-//!                          ├─ Worst ── question, strategy, effort, files, shown, each
+//!                          ├─ Worst ── question, strategy, effort, files, shown, table
 //!                          └─ Parts ── question, strategy, count
 //!
 //! Limits are invariants of the types. Nothing here looks at words.
@@ -17,5 +17,6 @@ pub use effort::{Count, Effort, MOST_NODES, MOST_PARTS, MOST_WORKERS};
 pub use files::Files;
 pub use question::{Inputs, Question};
 pub use request::{
-    Bound, Check, Command, Form, Join, Parts, Path, Request, Search, Shown, Sim, Strategy,
+    Bound, Check, Command, Form, Join, Parts, Path, Request, Search, Shown, Sim, Strategy, Stray,
+    Table,
 };

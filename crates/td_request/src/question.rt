@@ -17,4 +17,8 @@ pub struct Question<'a> {
     pub inputs: Inputs<'a>,
     /// At how many inputs, at most, the two vectors differ.
     pub flips: Option<u64>,
+    /// The file that has more conditions.
+    pub keep_file: Option<&'a str>,
+    /// The text of that file, once it is read.
+    pub keep_text: Option<&'a [u8]>,
 }

@@ -46,6 +46,8 @@ pub struct Bound<'a> {
     pub edges: bool,
     /// Whether it is asked which output has the bound.
     pub outputs: bool,
+    /// Whether the earliest change of an output is asked for, by edges.
+    pub earliest: bool,
 }
 
 /// By which means a search goes.
@@ -68,19 +70,48 @@ pub struct Shown {
     pub progress: bool,
 }
 
+/// Which table is asked for, of each output by itself.
+#[derive(Clone, Copy, Debug, PartialEq, Eq, Drop)]
+pub enum Table {
+    /// The worst delays.
+    Delays,
+    /// And the latest rise, the latest fall, and whether there is a glitch, or the figure of the
+    /// latest one.
+    Changes { figures: bool },
+    /// Whether an output can glitch, at either level.
+    Hazards,
+}
+
+/// An option of tables that doesn't go with the others.
+#[derive(Clone, Copy, Debug, PartialEq, Eq, Drop)]
+pub enum Stray {
+    /// `--changes` without `--each`.
+    Changes,
+    /// `--figures` without `--changes`.
+    Figures,
+    /// `--hazards` beside one of the others.
+    Hazards,
+}
+
 /// The search for the worst delay.
 #[derive(Clone, Copy)]
 pub struct Search<'a> {
     pub question: Question<'a>,
     pub strategy: Strategy,
     pub effort: Effort,
-    /// Where the certificate of an exact answer goes.
+    /// The moment by which outputs are to settle, in steps.
+    pub required: Option<u64>,
+    /// Where the certificate goes: of an exact answer, and of what is required.
     pub certificate: Option<&'a str>,
+    /// Whether an open answer has a certificate too.
+    pub between: bool,
     /// Where the waves of the given pair's run go.
     pub dump: Option<&'a str>,
     pub shown: Shown,
-    /// Whether each output is asked about by itself.
-    pub each: bool,
+    /// The table that is asked for in place of one answer.
+    pub table: Option<Table>,
+    /// An option of tables that doesn't go with the others.
+    pub stray: Option<Stray>,
 }
 
 /// The parts of a search's question.

@@ -13,6 +13,8 @@ pub struct Limits {
     pub work: u64,
     /// A pair with this delay is known: only later ones are looked for.
     pub known: u64,
+    /// It ends once it finds a pair with a greater delay.
+    pub enough: u64,
     /// How many gates the first climb simulates.
     pub climb: u64,
     /// How many pairs it tries round a better one, or round the best of a question that stays open.
@@ -41,6 +43,7 @@ impl Limits {
         Limits {
             work,
             known: 0,
+            enough: u64::MAX,
             climb: 1_000_000,
             near: 400,
             reuse: 4,

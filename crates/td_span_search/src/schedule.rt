@@ -10,6 +10,9 @@ use std::mem;
 // The first question stands a part of what is open below the top: one part of two to this power.
 const FIRST_SHARE: u32 = 4;
 
+// It stands at the bottom where a pair that is later than that is enough.
+const WHOLE: u32 = 0;
+
 // The first climb tries so many pairs at most.
 const MOST_TRIES: u64 = 20_000;
 
@@ -30,9 +33,14 @@ pub struct Schedule {
 impl Schedule {
     /// Before the first question.
     pub fn new(alloc: Global, limits: Limits) -> Schedule {
+        let share = if limits.enough == u64::MAX {
+            FIRST_SHARE
+        } else {
+            WHOLE
+        };
         Schedule {
             effort: limits.effort,
-            share: FIRST_SHARE,
+            share,
             failed: Vec::new(alloc),
             is_again: false,
             sweeps_from: limits.sweeps_from,

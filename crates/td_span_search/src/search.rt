@@ -104,12 +104,13 @@ pub struct Counts {
 }
 
 /// Why a search ends: the best delay that is known is the latest moment that is possible; no pair
-/// is asked about; its work is done; its stop is set; it takes as much memory as it may; or a run
-/// has too many changes, or a gate too many inputs, to be followed.
+/// is asked about; a pair is late enough; its work is done; its stop is set; it takes as much memory
+/// as it may; or a run has too many changes, or a gate too many inputs, to be followed.
 #[derive(Clone, Copy, Debug, PartialEq, Eq, Drop)]
 pub enum Ending {
     Closed,
     NoPair,
+    Enough,
     Work,
     Stop,
     Memory,
@@ -296,10 +297,12 @@ impl<'a> Search<'a> {
         self.steps() >= self.pause
     }
 
-    // Why the search is to end, but for what was found.
+    // Why the search is to end, but for what is shown.
     pub(crate) fn ends(&self) -> Option<Ending> {
         if self.is_lost {
             Some(Ending::Lost)
+        } else if self.best.delay > self.limits.enough {
+            Some(Ending::Enough)
         } else if self.stop.is_set() {
             Some(Ending::Stop)
         } else if self.spent() >= self.limits.work {

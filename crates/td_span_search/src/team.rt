@@ -197,6 +197,9 @@ impl<'a> Team<'a> {
         if first.search.is_ready && self.best_known() >= self.top() {
             return Some(Ending::Closed);
         }
+        if self.best.delay > self.limits.enough {
+            return Some(Ending::Enough);
+        }
         if self.spent() >= self.limits.work {
             return Some(Ending::Work);
         }

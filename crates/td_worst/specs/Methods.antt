@@ -1,5 +1,5 @@
 -- By which means the worst delay is searched for, and what its answer says.
-use Rattle.std.specs.Prelude.{◌≢◌, ℕ, ◌/◌, ◌<◌, ◌≤◌, ◌^◌, min, max, nat_lt, Bool, true, false, Some}
+use Rattle.std.specs.Prelude.{◌≢◌, ℕ, ◌/◌, ◌<◌, ◌≤◌, ◌^◌, ◌||◌, min, max, nat_lt, nat_le, Bool, true, false, Option, Some, None}
 use Rattle.td_domain.specs.Pairs.{Pair}
 use Rattle.td_domain.specs.Worst.{IsUpperBound, IsWorst}
 use Rattle.td_certificate.specs.declared.tree.BoundedBy.TheVariants.{Edges}
@@ -9,10 +9,11 @@ use Rattle.td_search.specs.declared.strategy.Strategy.{Strategy}
 use Rattle.td_search.specs.declared.strategy.Strategy.TheVariants as strategy
 use Rattle.td_search.specs.declared.answers.Answer.{Answer}
 use Rattle.td_search.specs.declared.answers.Answer.TheVariants as answer
-use Rattle.td_search.specs.Problems.{Problem, has_delay}
+use Rattle.td_search.specs.Problems.{Problem, has_delay, problem_by}
 use Rattle.td_search.specs.Answers.{IsAnswer, IsExact, low_of}
 use Rattle.td_worst.specs.declared.method.Method.{Method}
 use Rattle.td_worst.specs.declared.method.Method.TheVariants as method
+use Rattle.td_worst.specs.declared.question.Question.{Question}
 
 -- the strategy of the first tree that a method searches, and of parts of a question
 abbrev pub tree_of : Method → Strategy
@@ -55,12 +56,22 @@ goes_further method.Lead gates budget = false
 goes_further method.Refute gates budget = nat_lt 0 budget
 goes_further method.Auto gates budget = nat_lt (first_nodes gates) budget
 
+-- what is asked
+abbrev pub problem_in : Question → Problem
+problem_in question = problem_by (tree_of question.method) question.circuit.now question.admit.now
+
 -- whether an answer isn't exact for its budget alone
 abbrev pub is_open : Answer → Bool
 is_open (answer.Exact time pair tree) = false
 is_open (answer.Between low high pair nodes cause.Budget) = true
 is_open (answer.Between low high pair nodes cause.Memory) = false
 is_open (answer.Between low high pair nodes cause.Time) = false
+
+-- whether an answer says if a pair is later than a required moment, where there is one
+abbrev pub is_answered : Option ℕ → Answer → Bool
+is_answered None found = false
+is_answered (Some required) (answer.Exact time pair tree) = true
+is_answered (Some required) (answer.Between low high pair nodes why) = nat_lt required low || nat_le high required
 
 -- The upper figure is at most the bound of the pins by edges, unless memory ran out.
 abbrev pub IsWithinEdges : Problem → Answer → Type 0

@@ -22,7 +22,7 @@ use td_lead::Timed;
 use td_search::{Answer, Cause, Problem};
 
 // The tree of one leaf that edges bound so. The error is out of memory.
-fn tree_of_bound(alloc: Global, bound: u64) -> Result<Tree, AllocError>
+pub(crate) fn tree_of_bound(alloc: Global, bound: u64) -> Result<Tree, AllocError>
     ensures { IfOk result (λ tree. tree ≡ node.Bound domain.Edges bound ∷ []) }
 {
     let mut nodes = Vec::new(alloc);

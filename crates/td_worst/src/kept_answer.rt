@@ -37,11 +37,13 @@ pub enum KeptAnswer {
         best: Timed,
         tree: Tree,
     },
-    /// The latest pair that was found; none is later than the upper figure.
+    /// The latest pair that was found; none is later than the upper figure. Steps that show a bound,
+    /// which may be above that figure, if there are some.
     Between {
         best: Timed,
         high: u64,
         cause: Cause,
+        refuted: Option<Refuted>,
     },
     /// No pair was found; none is later than the upper figure.
     Open {
@@ -74,7 +76,7 @@ fn is_told(condition: NamedCondition) -> bool
 }
 
 // Whether a certificate's text can tell conditions.
-fn are_told(keep: &[NamedCondition]) -> bool
+pub(crate) fn are_told(keep: &[NamedCondition]) -> bool
     ensures told { IsTrue result → AreConditions keep.now }
     ensures few { IsTrue result → length keep.now ≤ 5000 }
 {
@@ -83,7 +85,7 @@ fn are_told(keep: &[NamedCondition]) -> bool
 
 // The certificate's tree of lines that show a bound, or that no pair is asked about; none where a
 // text can't tell them or the conditions, or memory runs out.
-fn tree_of(
+pub(crate) fn tree_of(
     alloc: Global,
     keep: &[NamedCondition],
     steps: &[Step],
@@ -110,7 +112,12 @@ impl Known {
     {
         let Known { best, high, cause } = self;
         match best {
-            Some(best) => KeptAnswer::Between { best, high, cause },
+            Some(best) => KeptAnswer::Between {
+                best,
+                high,
+                cause,
+                refuted: None,
+            },
             None => KeptAnswer::Open { high, cause },
         }
     }
@@ -125,16 +132,16 @@ impl Known {
     {
         match evidence {
             Evidence::Nothing => self.open(),
-            Evidence::Bound(refuted) => self.bounded(alloc, keep, &refuted),
+            Evidence::Bound(refuted) => self.bounded(alloc, keep, refuted),
             Evidence::NoPair(steps) => self.emptied(alloc, keep, &steps),
         }
     }
 
     // Lines show a bound.
-    fn bounded(self, alloc: Global, keep: &[NamedCondition], refuted: &Refuted) -> KeptAnswer
+    fn bounded(self, alloc: Global, keep: &[NamedCondition], refuted: Refuted) -> KeptAnswer
         requires small { IfSome self.best (λ best. best.time < 10 ^ 15) }
         ensures answer { (given : Setting) (admit : Admitted) → IsFitted given admit keep.now → IsKnown given (record { admit = admit; keep = keep.now }) self
-            → IsShownAmong given (record { admit = admit; keep = keep.now }) refuted.now → IsKeptAnswer given (record { admit = admit; keep = keep.now }) result }
+            → IsShownAmong given (record { admit = admit; keep = keep.now }) refuted → IsKeptAnswer given (record { admit = admit; keep = keep.now }) result }
         ensures within { (most : ℕ) → self.high ≤ most → IsKeptWithin most result }
         ensures time { (can_be_set : Bool) → (self.cause ≡ cause.Time → can_be_set ≡ true) → KeptTimeNeedsStop can_be_set result }
     {
@@ -144,7 +151,12 @@ impl Known {
             return KeptAnswer::Open { high, cause };
         };
         if refuted.bound > best.time {
-            return KeptAnswer::Between { best, high, cause };
+            return KeptAnswer::Between {
+                best,
+                high,
+                cause,
+                refuted: Some(refuted),
+            };
         }
         match tree_of(alloc, keep, &refuted.steps, Some(refuted.bound)) {
             Some(tree) => KeptAnswer::Exact { best, tree },
@@ -152,6 +164,7 @@ impl Known {
                 best,
                 high,
                 cause: Cause::Memory,
+                refuted: None,
             },
         }
     }

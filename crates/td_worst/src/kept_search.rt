@@ -8,23 +8,24 @@ ghost use Rattle.td_certificate.specs.declared.tree.BoundedBy.TheVariants as dom
 ghost use Rattle.td_search.specs.declared.strategy.Strategy.TheVariants as strategy;
 ghost use Rattle.td_search.specs.Answers.{IsSearchFault};
 ghost use Rattle.td_search.specs.Problems.{problem_by};
-ghost use Rattle.td_worst.specs.Kept.{IsKeptAnswer, IsKeptWithinEdges, KeptTimeNeedsStop};
+ghost use Rattle.td_worst.specs.Kept.{IsKeptAnswer, IsKeptWithinEdges, KeptTimeNeedsStop, asking_in};
 
 use crate::kept_answer::{KeptAnswer, Known};
+use crate::question::KeptQuestion;
 use crate::refuting::cause_of;
 use std::alloc::{AllocError, Global};
 use std::thread::Threads;
 use td_circuit::Circuit;
-use td_domain::{Admit, Cube, bound};
+use td_domain::{Cube, bound};
 use td_edges::Edges;
 use td_pool::Limits;
-use td_refutation::NamedCondition;
 use td_refute::{Answered, Effort, refute_keeping};
 use td_search::{Cause, SearchFault, strongest_bound};
 
 /// Searches for the worst delay of the admitted pairs of a circuit that keep conditions, by spans.
 /// The pairs are of the circuit's inputs, and the conditions are in a certificate's order, on nets
-/// of the circuit. The search ends after as many units of work as the budget of the effort says, or
+/// of the circuit. Where a moment is required, the search ends once a pair is later, or none can be.
+/// It ends after as many units of work as the budget of the effort says, or
 /// once the stop is set, and the answer says what is known by then.
 ///
 /// # Errors
@@ -34,18 +35,22 @@ use td_search::{Cause, SearchFault, strongest_bound};
 pub fn worst_kept_until<R: Threads + Sync>(
     rt: &R,
     alloc: Global,
-    circuit: &Circuit,
-    admit: &Admit,
-    keep: &[NamedCondition],
+    question: KeptQuestion<'_>,
     limits: Limits<'_>,
 ) -> Result<KeptAnswer, SearchFault>
-    requires held { length admit.now.held ≡ length circuit.now.netlist.inputs }
-    requires fit { are_fit (2 + length circuit.now.netlist.inputs + length circuit.now.netlist.gates) keep.now ≡ true }
-    ensures answer { IfOk result (IsKeptAnswer (setting circuit.now) (record { admit = admit.now; keep = keep.now })) }
-    ensures edges { IfOk result (IsKeptWithinEdges (setting circuit.now) admit.now) }
+    requires held { length question.admit.now.held ≡ length question.circuit.now.netlist.inputs }
+    requires fit { are_fit (2 + length question.circuit.now.netlist.inputs + length question.circuit.now.netlist.gates) question.keep.now ≡ true }
+    ensures answer { IfOk result (IsKeptAnswer (setting question.entry.circuit.now) (asking_in question.entry)) }
+    ensures edges { IfOk result (IsKeptWithinEdges (setting question.entry.circuit.now) question.entry.admit.now) }
     ensures time { IfOk result (KeptTimeNeedsStop limits.entry.stop.now.can_be_set) }
-    ensures fault { IfErr result (IsSearchFault (problem_by strategy.Lead circuit.now admit.now)) }
+    ensures fault { IfErr result (IsSearchFault (problem_by strategy.Lead question.entry.circuit.now question.entry.admit.now)) }
 {
+    let KeptQuestion {
+        circuit,
+        admit,
+        keep,
+        required,
+    } = question;
     // For the prover: the circuit's sizes.
     let _gates = circuit.gates();
     let _moments = circuit.moments();
@@ -62,6 +67,7 @@ pub fn worst_kept_until<R: Threads + Sync>(
     let mut further = Effort::until(stop);
     further.work = effort.budget;
     further.workers = effort.workers;
+    further.required = required;
     match refute_keeping(rt, alloc, circuit, admit, keep, further) {
         Ok(answered) => {
             let Answered {

@@ -6,21 +6,19 @@ ghost use Rattle.td_certificate.specs.Accepts.{are_fit};
 ghost use Rattle.td_search.specs.declared.strategy.Strategy.TheVariants as strategy;
 ghost use Rattle.td_search.specs.Problems.{problem_by};
 ghost use Rattle.td_worst.specs.Faults.{IsWorstFault};
-ghost use Rattle.td_worst.specs.Kept.{IsKeptAnswer, IsKeptWithinEdges, KeptTimeNeedsStop, asking_by};
+ghost use Rattle.td_worst.specs.Kept.{IsKeptAnswer, IsKeptWithinEdges, KeptTimeNeedsStop, asking_in};
 
 use crate::fault::WorstFault;
 use crate::kept_answer::KeptAnswer;
 use crate::kept_search::worst_kept_until;
+use crate::question::KeptQuestion;
 use crate::timing::{Timed, TimedEffort};
 use std::alloc::Global;
 use std::sync::Wait;
 use std::thread;
 use std::thread::Threads;
 use std::time::Clock;
-use td_circuit::Circuit;
-use td_domain::Admit;
 use td_pool::{Limits, Unwatched, Watch};
-use td_refutation::NamedCondition;
 use td_stop::{Stop, Timer};
 
 /// Searches as `worst_kept_until` does. Where seconds are given, a timer sets the stop once they
@@ -33,18 +31,16 @@ use td_stop::{Stop, Timer};
 pub fn worst_kept<R: Threads + Wait + Clock + Sync>(
     rt: &R,
     alloc: Global,
-    circuit: &Circuit,
-    admit: &Admit,
-    keep: &[NamedCondition],
+    question: KeptQuestion<'_>,
     effort: TimedEffort,
 ) -> Result<KeptAnswer, WorstFault>
-    requires held { length admit.now.held ≡ length circuit.now.netlist.inputs }
-    requires fit { are_fit (2 + length circuit.now.netlist.inputs + length circuit.now.netlist.gates) keep.now ≡ true }
-    ensures answer { IfOk result (IsKeptAnswer (setting circuit.now) (record { admit = admit.now; keep = keep.now })) }
-    ensures edges { IfOk result (IsKeptWithinEdges (setting circuit.now) admit.now) }
+    requires held { length question.admit.now.held ≡ length question.circuit.now.netlist.inputs }
+    requires fit { are_fit (2 + length question.circuit.now.netlist.inputs + length question.circuit.now.netlist.gates) question.keep.now ≡ true }
+    ensures answer { IfOk result (IsKeptAnswer (setting question.entry.circuit.now) (asking_in question.entry)) }
+    ensures edges { IfOk result (IsKeptWithinEdges (setting question.entry.circuit.now) question.entry.admit.now) }
     // Time is a cause only where seconds are given.
     ensures time { IfOk result (KeptTimeNeedsStop (is_some effort.seconds)) }
-    ensures fault { IfErr result (IsWorstFault (is_some effort.seconds) (problem_by strategy.Lead circuit.now admit.now)) }
+    ensures fault { IfErr result (IsWorstFault (is_some effort.seconds) (problem_by strategy.Lead question.entry.circuit.now question.entry.admit.now)) }
 {
     let TimedEffort { effort, seconds } = effort;
     let Some(seconds) = seconds else {
@@ -53,7 +49,7 @@ pub fn worst_kept<R: Threads + Wait + Clock + Sync>(
             effort,
             stop: &stop,
         };
-        let found = worst_kept_until(rt, alloc, circuit, admit, keep, limits)?;
+        let found = worst_kept_until(rt, alloc, question, limits)?;
         return Ok(found);
     };
     if !Timer::can_run(rt) {
@@ -69,7 +65,7 @@ pub fn worst_kept<R: Threads + Wait + Clock + Sync>(
         timer: &timer,
         seconds,
     };
-    let (found, _watch) = kept_within(rt, alloc, circuit, admit, keep, timed, Unwatched);
+    let (found, _watch) = kept_within(rt, alloc, question, timed, Unwatched);
     found
 }
 
@@ -77,17 +73,15 @@ pub fn worst_kept<R: Threads + Wait + Clock + Sync>(
 fn kept_within<W: Watch, R: Threads + Wait + Clock + Sync>(
     rt: &R,
     alloc: Global,
-    circuit: &Circuit,
-    admit: &Admit,
-    keep: &[NamedCondition],
+    question: KeptQuestion<'_>,
     timed: Timed<'_>,
     watch: W,
 ) -> (Result<KeptAnswer, WorstFault>, W)
-    requires held { length admit.now.held ≡ length circuit.now.netlist.inputs }
-    requires fit { are_fit (2 + length circuit.now.netlist.inputs + length circuit.now.netlist.gates) keep.now ≡ true }
-    ensures answer { IfOk result.0 (IsKeptAnswer (setting circuit.now) (asking_by admit.now keep.now)) }
-    ensures edges { IfOk result.0 (IsKeptWithinEdges (setting circuit.now) admit.now) }
-    ensures fault { IfErr result.0 (IsWorstFault true (problem_by strategy.Lead circuit.now admit.now)) }
+    requires held { length question.admit.now.held ≡ length question.circuit.now.netlist.inputs }
+    requires fit { are_fit (2 + length question.circuit.now.netlist.inputs + length question.circuit.now.netlist.gates) question.keep.now ≡ true }
+    ensures answer { IfOk result.0 (IsKeptAnswer (setting question.entry.circuit.now) (asking_in question.entry)) }
+    ensures edges { IfOk result.0 (IsKeptWithinEdges (setting question.entry.circuit.now) question.entry.admit.now) }
+    ensures fault { IfErr result.0 (IsWorstFault true (problem_by strategy.Lead question.entry.circuit.now question.entry.admit.now)) }
 {
     let Timed {
         limits,
@@ -99,17 +93,17 @@ fn kept_within<W: Watch, R: Threads + Wait + Clock + Sync>(
         thread::scope_env(),
         rt,
         |scope| -> (Result<KeptAnswer, WorstFault>, W)
-            requires held { length admit.now.held ≡ length circuit.now.netlist.inputs }
-            requires fit { are_fit (2 + length circuit.now.netlist.inputs + length circuit.now.netlist.gates) keep.now ≡ true }
-            ensures answer { IfOk result.0 (IsKeptAnswer (setting circuit.entry.now) (asking_by admit.entry.now keep.entry.now)) }
-            ensures edges { IfOk result.0 (IsKeptWithinEdges (setting circuit.entry.now) admit.entry.now) }
-            ensures fault { IfErr result.0 (IsWorstFault true (problem_by strategy.Lead circuit.entry.now admit.entry.now)) }
+            requires held { length question.admit.now.held ≡ length question.circuit.now.netlist.inputs }
+            requires fit { are_fit (2 + length question.circuit.now.netlist.inputs + length question.circuit.now.netlist.gates) question.keep.now ≡ true }
+            ensures answer { IfOk result.0 (IsKeptAnswer (setting question.entry.circuit.now) (asking_in question.entry)) }
+            ensures edges { IfOk result.0 (IsKeptWithinEdges (setting question.entry.circuit.now) question.entry.admit.now) }
+            ensures fault { IfErr result.0 (IsWorstFault true (problem_by strategy.Lead question.entry.circuit.now question.entry.admit.now)) }
         {
             let watch = watch;
             let Ok(running) = scope.spawn(move || timer.run(rt, seconds, stop)) else {
                 return (Err(WorstFault::NoTimer), watch);
             };
-            let found = worst_kept_until(rt, alloc, circuit, admit, keep, limits);
+            let found = worst_kept_until(rt, alloc, question, limits);
             timer.end(rt);
             running.join(rt);
             match found {

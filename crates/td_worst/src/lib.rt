@@ -3,20 +3,26 @@
 
 mod combining;
 mod edge_bound;
+mod evidence;
 mod fault;
+mod found;
 mod kept_answer;
 mod kept_search;
 mod kept_timing;
 mod leaf;
 mod method;
+mod question;
 mod refuting;
 mod searching;
 mod timing;
 
+pub use evidence::tree_of_high;
 pub use fault::WorstFault;
+pub use found::Found;
 pub use kept_answer::KeptAnswer;
 pub use kept_search::worst_kept_until;
 pub use kept_timing::worst_kept;
 pub use method::Method;
+pub use question::{KeptQuestion, Question};
 pub use searching::worst_until;
 pub use timing::{TimedEffort, worst};

@@ -13,6 +13,7 @@ ghost use Rattle.td_worst.specs.Leaves.{IsSpellable};
 ghost use Rattle.td_worst.specs.Methods.{high_of, IsNarrower, IsSoundAnswer};
 ghost use Rattle.td_worst.specs.OpenAnswer.{IsOpenAnswer};
 
+use crate::found::Found;
 use crate::leaf::tree_of_leaf;
 use std::alloc::{AllocError, Global};
 use std::thread::Threads;
@@ -92,9 +93,9 @@ impl OpenAnswer {
     }
 }
 
-/// What a refutation makes of an answer. An exact answer stays as it is. The search ends after as
-/// many units of work as its effort says, or once its stop is set. Where memory runs out, what was
-/// known stands.
+/// What a refutation makes of an answer, with the steps that show a bound where it stays open. An
+/// exact answer stays as it is. The search ends after as many units of work as its effort says, or
+/// once its stop is set. Where memory runs out, what was known stands.
 pub fn refuted_further<R: Threads + Sync>(
     rt: &R,
     alloc: Global,
@@ -102,17 +103,18 @@ pub fn refuted_further<R: Threads + Sync>(
     known: Answer,
     budget: u64,
     effort: Effort<'_>,
-) -> Answer
+) -> Found
     requires some { 0 < budget }
     requires known { IsSoundAnswer (problem_of problem.now) budget known }
     requires text { CanBeWritten (problem_of problem.now) known }
-    ensures answer { IsSoundAnswer (problem_of problem.now) budget result }
-    ensures text { CanBeWritten (problem_of problem.now) result }
-    ensures narrower { IsNarrower known result }
-    ensures time { TimeNeedsStop effort.entry.stop.now.can_be_set result }
+    ensures answer { IsSoundAnswer (problem_of problem.now) budget result.answer }
+    ensures text { CanBeWritten (problem_of problem.now) result.answer }
+    ensures narrower { IsNarrower known result.answer }
+    ensures time { TimeNeedsStop effort.entry.stop.now.can_be_set result.answer }
+    ensures shown { IfSome result.refuted (IsShown (setting problem.now.circuit.now) problem.now.admit.now) }
 {
     match known {
-        Answer::Exact { time, pair, tree } => Answer::Exact { time, pair, tree },
+        Answer::Exact { time, pair, tree } => Found::of(Answer::Exact { time, pair, tree }),
         Answer::Between {
             low,
             high,
@@ -135,14 +137,15 @@ fn refute_open_answer<R: Threads + Sync>(
     known: OpenAnswer,
     budget: u64,
     effort: Effort<'_>,
-) -> Answer
+) -> Found
     requires some { 0 < budget }
     requires known { IsOpenAnswer (problem_of problem.now) budget known }
-    ensures answer { IsSoundAnswer (problem_of problem.now) budget result }
-    ensures text { CanBeWritten (problem_of problem.now) result }
-    ensures low { known.best.time ≤ low_of result }
-    ensures high { high_of result ≤ known.high }
-    ensures time { TimeNeedsStop effort.entry.stop.now.can_be_set result }
+    ensures answer { IsSoundAnswer (problem_of problem.now) budget result.answer }
+    ensures text { CanBeWritten (problem_of problem.now) result.answer }
+    ensures low { known.best.time ≤ low_of result.answer }
+    ensures high { high_of result.answer ≤ known.high }
+    ensures time { TimeNeedsStop effort.entry.stop.now.can_be_set result.answer }
+    ensures shown { IfSome result.refuted (IsShown (setting problem.now.circuit.now) problem.now.admit.now) }
 {
     // For the prover: the circuit's and the pins' sizes.
     let _gates = problem.circuit.gates();
@@ -151,9 +154,38 @@ fn refute_open_answer<R: Threads + Sync>(
     let mut known = known;
     let (found, why) = search(rt, alloc, problem, &mut known.best, effort);
     match found {
-        Ok(Some(refuted)) => known.refuted(alloc, &refuted, why),
-        Ok(None) => known.between(why),
-        Err(_) => known.between(Cause::Memory),
+        Ok(Some(refuted)) => {
+            let answer = known.refuted(alloc, &refuted, why);
+            with_steps(answer, refuted)
+        }
+        Ok(None) => Found::of(known.between(why)),
+        Err(_) => Found::of(known.between(Cause::Memory)),
+    }
+}
+
+// An answer with the steps, which an exact one has in its tree.
+fn with_steps(answer: Answer, refuted: Refuted) -> Found
+    ensures answer { result.answer ≡ answer }
+    ensures steps { IfSome result.refuted (λ steps. steps ≡ refuted) }
+{
+    match answer {
+        Answer::Exact { time, pair, tree } => Found::of(Answer::Exact { time, pair, tree }),
+        Answer::Between {
+            low,
+            high,
+            pair,
+            nodes,
+            cause,
+        } => Found {
+            answer: Answer::Between {
+                low,
+                high,
+                pair,
+                nodes,
+                cause,
+            },
+            refuted: Some(refuted),
+        },
     }
 }
 

@@ -1,16 +1,20 @@
 //! The search for the worst delay, by any means.
 
-ghost use Rattle.std.specs.Prelude.{◌≡◌, true, min, max, ◌<◌, ◌≤◌, ◌+◌, ◌/◌, ℕ, length, IfOk, IfErr};
+ghost use Rattle.std.specs.Prelude.{◌≡◌, true, min, max, ◌<◌, ◌≤◌, ◌+◌, ◌/◌, ℕ, length, IfOk, IfErr, IfSome};
+ghost use Rattle.td_circuit.specs.Numbering.{setting};
+ghost use Rattle.td_refute.specs.Answers.{IsShown};
 ghost use Rattle.td_search.specs.Answers.{IsAnswer, IsSearchFault, TimeNeedsStop};
 ghost use Rattle.td_search.specs.Problems.{problem_by};
 ghost use Rattle.td_search.specs.declared.strategy.Strategy.TheVariants as strategy;
 ghost use Rattle.td_search.specs.Written.{CanBeWritten};
 ghost use Rattle.td_worst.specs.declared.method.Method.TheVariants as by_method;
-ghost use Rattle.td_worst.specs.Methods.{tree_of, first_nodes, goes_further, high_of, is_open, IsAnswerBy, IsSoundAnswer, IsWithinEdges};
+ghost use Rattle.td_worst.specs.Methods.{problem_in, first_nodes, goes_further, high_of, is_open, IsAnswerBy, IsSoundAnswer, IsWithinEdges};
 
 use crate::combining::combined;
 use crate::edge_bound::bounded_by_edges;
+use crate::found::{Found, is_answered};
 use crate::method::Method;
+use crate::question::Question;
 use crate::refuting::refuted_further;
 use std::alloc::Global;
 use std::sync::Wait;
@@ -48,7 +52,8 @@ const LAST: Share = Share {
 };
 
 /// Searches for the worst delay of the admitted pairs of a circuit, by a method. The pairs are of
-/// the circuit's inputs. Trees have at most as many nodes as the budget of the effort says, and a
+/// the circuit's inputs. Where a moment is required, a search by spans ends once a pair is later, or
+/// none can be, and `Auto` ends with the search that says so. Trees have at most as many nodes as the budget of the effort says, and a
 /// search for a refutation ends after that many units of work. Once the stop is set, the search
 /// ends, and the answer says what is known by then. The watch gets the progress of a tree.
 ///
@@ -59,28 +64,34 @@ const LAST: Share = Share {
 pub fn worst_until<W: Watch, R: Threads + Wait + Sync>(
     rt: &R,
     alloc: Global,
-    circuit: &Circuit,
-    admit: &Admit,
-    method: Method,
+    question: Question<'_>,
     limits: Limits<'_>,
     watch: &mut W,
-) -> Result<Answer, SearchFault>
-    requires held { length admit.now.held ≡ length circuit.now.netlist.inputs }
-    ensures answer { IfOk result (IsAnswerBy method (problem_by (tree_of method) circuit.now admit.now) limits.entry.effort.budget) }
+) -> Result<Found, SearchFault>
+    requires held { length question.admit.now.held ≡ length question.circuit.now.netlist.inputs }
+    ensures answer { IfOk result (λ found. IsAnswerBy question.entry.method (problem_in question.entry) limits.entry.effort.budget found.answer) }
     // Where the budget ends with its first tree, `Auto` answers as `Least` does.
-    ensures first { method ≡ by_method.Auto → limits.entry.effort.budget ≤ first_nodes (length circuit.now.netlist.gates)
-        → IfOk result (IsAnswer (problem_by strategy.Least circuit.now admit.now) limits.entry.effort.budget) }
+    ensures first { question.entry.method ≡ by_method.Auto → limits.entry.effort.budget ≤ first_nodes (length question.entry.circuit.now.netlist.gates)
+        → IfOk result (λ found. IsAnswer (problem_by strategy.Least question.entry.circuit.now question.entry.admit.now) limits.entry.effort.budget found.answer) }
     // Where it goes on, the upper figure is at most the bound by edges.
-    ensures edges { goes_further method (length circuit.now.netlist.gates) limits.entry.effort.budget ≡ true
-        → IfOk result (IsWithinEdges (problem_by (tree_of method) circuit.now admit.now)) }
+    ensures edges { goes_further question.entry.method (length question.entry.circuit.now.netlist.gates) limits.entry.effort.budget ≡ true
+        → IfOk result (λ found. IsWithinEdges (problem_in question.entry) found.answer) }
     // The certificate of an exact answer has a text within the limit.
-    ensures text { IfOk result (CanBeWritten (problem_by (tree_of method) circuit.now admit.now)) }
+    ensures text { IfOk result (λ found. CanBeWritten (problem_in question.entry) found.answer) }
     // Time is a cause only where the stop can be set.
-    ensures time { IfOk result (TimeNeedsStop limits.entry.stop.now.can_be_set) }
-    ensures fault { IfErr result (IsSearchFault (problem_by (tree_of method) circuit.now admit.now)) }
+    ensures time { IfOk result (λ found. TimeNeedsStop limits.entry.stop.now.can_be_set found.answer) }
+    // The steps show their bound.
+    ensures shown { IfOk result (λ found. IfSome found.refuted (IsShown (setting question.entry.circuit.now) question.entry.admit.now)) }
+    ensures fault { IfErr result (IsSearchFault (problem_in question.entry)) }
     // All progress that the watch got is true of what is asked.
-    ensures reported { W.reported (problem_by (tree_of method) circuit.now admit.now) watch.old watch.new }
+    ensures reported { W.reported (problem_in question.entry) watch.old watch.new }
 {
+    let Question {
+        circuit,
+        admit,
+        method,
+        required,
+    } = question;
     match method {
         Method::Least | Method::Lead => {
             let problem = Problem {
@@ -88,10 +99,11 @@ pub fn worst_until<W: Watch, R: Threads + Wait + Sync>(
                 admit,
                 strategy: method.strategy(),
             };
-            search(rt, alloc, &problem, &Own, limits, watch)
+            let answer = search(rt, alloc, &problem, &Own, limits, watch)?;
+            Ok(Found::of(answer))
         }
-        Method::Refute => by_refutation(rt, alloc, circuit, admit, limits, watch),
-        Method::Auto => by_all(rt, alloc, circuit, admit, limits, watch),
+        Method::Refute => by_refutation(rt, alloc, question, limits, watch),
+        Method::Auto => by_all(rt, alloc, question, limits, watch),
     }
 }
 
@@ -99,25 +111,31 @@ pub fn worst_until<W: Watch, R: Threads + Wait + Sync>(
 fn by_refutation<W: Watch, R: Threads + Wait + Sync>(
     rt: &R,
     alloc: Global,
-    circuit: &Circuit,
-    admit: &Admit,
+    question: Question<'_>,
     limits: Limits<'_>,
     watch: &mut W,
-) -> Result<Answer, SearchFault>
-    requires held { length admit.now.held ≡ length circuit.now.netlist.inputs }
-    ensures answer { IfOk result (IsSoundAnswer (problem_by strategy.Lead circuit.now admit.now) limits.entry.effort.budget) }
-    ensures edges { 0 < limits.entry.effort.budget → IfOk result (IsWithinEdges (problem_by strategy.Lead circuit.now admit.now)) }
-    ensures text { IfOk result (CanBeWritten (problem_by strategy.Lead circuit.now admit.now)) }
-    ensures time { IfOk result (TimeNeedsStop limits.entry.stop.now.can_be_set) }
-    ensures fault { IfErr result (IsSearchFault (problem_by strategy.Lead circuit.now admit.now)) }
-    ensures reported { W.reported (problem_by strategy.Lead circuit.now admit.now) watch.old watch.new }
+) -> Result<Found, SearchFault>
+    requires held { length question.admit.now.held ≡ length question.circuit.now.netlist.inputs }
+    ensures answer { IfOk result (λ found. IsSoundAnswer (problem_by strategy.Lead question.entry.circuit.now question.entry.admit.now) limits.entry.effort.budget found.answer) }
+    ensures edges { 0 < limits.entry.effort.budget → IfOk result (λ found. IsWithinEdges (problem_by strategy.Lead question.entry.circuit.now question.entry.admit.now) found.answer) }
+    ensures text { IfOk result (λ found. CanBeWritten (problem_by strategy.Lead question.entry.circuit.now question.entry.admit.now) found.answer) }
+    ensures time { IfOk result (λ found. TimeNeedsStop limits.entry.stop.now.can_be_set found.answer) }
+    ensures shown { IfOk result (λ found. IfSome found.refuted (IsShown (setting question.entry.circuit.now) question.entry.admit.now)) }
+    ensures fault { IfErr result (IsSearchFault (problem_by strategy.Lead question.entry.circuit.now question.entry.admit.now)) }
+    ensures reported { W.reported (problem_by strategy.Lead question.entry.circuit.now question.entry.admit.now) watch.old watch.new }
 {
+    let Question {
+        circuit,
+        admit,
+        required,
+        ..
+    } = question;
     let Limits { effort, .. } = limits;
     let budget = effort.budget;
     let none = with_nodes(limits, 0);
     let known = bounded(rt, alloc, circuit, admit, none, watch)?;
     if budget == 0 {
-        return Ok(known);
+        return Ok(Found::of(known));
     }
     let problem = Problem {
         circuit,
@@ -125,10 +143,10 @@ fn by_refutation<W: Watch, R: Threads + Wait + Sync>(
         strategy: Strategy::Lead,
     };
     let known = bounded_by_edges(alloc, &problem, known, budget);
-    if !is_open(&known) {
-        return Ok(known);
+    if !is_open(&known) || is_answered(required, &known) {
+        return Ok(Found::of(known));
     }
-    let further = with_work(limits, budget);
+    let further = with_work(limits, budget, required);
     Ok(refuted_further(rt, alloc, &problem, known, budget, further))
 }
 
@@ -162,22 +180,28 @@ fn bounded<W: Watch, R: Threads + Wait + Sync>(
 fn by_all<W: Watch, R: Threads + Wait + Sync>(
     rt: &R,
     alloc: Global,
-    circuit: &Circuit,
-    admit: &Admit,
+    question: Question<'_>,
     limits: Limits<'_>,
     watch: &mut W,
-) -> Result<Answer, SearchFault>
-    requires held { length admit.now.held ≡ length circuit.now.netlist.inputs }
-    ensures answer { IfOk result (IsSoundAnswer (problem_by strategy.Least circuit.now admit.now) limits.entry.effort.budget) }
-    ensures first { limits.entry.effort.budget ≤ first_nodes (length circuit.now.netlist.gates)
-        → IfOk result (IsAnswer (problem_by strategy.Least circuit.now admit.now) limits.entry.effort.budget) }
-    ensures edges { first_nodes (length circuit.now.netlist.gates) < limits.entry.effort.budget
-        → IfOk result (IsWithinEdges (problem_by strategy.Least circuit.now admit.now)) }
-    ensures text { IfOk result (CanBeWritten (problem_by strategy.Least circuit.now admit.now)) }
-    ensures time { IfOk result (TimeNeedsStop limits.entry.stop.now.can_be_set) }
-    ensures fault { IfErr result (IsSearchFault (problem_by strategy.Least circuit.now admit.now)) }
-    ensures reported { W.reported (problem_by strategy.Least circuit.now admit.now) watch.old watch.new }
+) -> Result<Found, SearchFault>
+    requires held { length question.admit.now.held ≡ length question.circuit.now.netlist.inputs }
+    ensures answer { IfOk result (λ found. IsSoundAnswer (problem_by strategy.Least question.entry.circuit.now question.entry.admit.now) limits.entry.effort.budget found.answer) }
+    ensures first { limits.entry.effort.budget ≤ first_nodes (length question.entry.circuit.now.netlist.gates)
+        → IfOk result (λ found. IsAnswer (problem_by strategy.Least question.entry.circuit.now question.entry.admit.now) limits.entry.effort.budget found.answer) }
+    ensures edges { first_nodes (length question.entry.circuit.now.netlist.gates) < limits.entry.effort.budget
+        → IfOk result (λ found. IsWithinEdges (problem_by strategy.Least question.entry.circuit.now question.entry.admit.now) found.answer) }
+    ensures text { IfOk result (λ found. CanBeWritten (problem_by strategy.Least question.entry.circuit.now question.entry.admit.now) found.answer) }
+    ensures time { IfOk result (λ found. TimeNeedsStop limits.entry.stop.now.can_be_set found.answer) }
+    ensures shown { IfOk result (λ found. IfSome found.refuted (IsShown (setting question.entry.circuit.now) question.entry.admit.now)) }
+    ensures fault { IfErr result (IsSearchFault (problem_by strategy.Least question.entry.circuit.now question.entry.admit.now)) }
+    ensures reported { W.reported (problem_by strategy.Least question.entry.circuit.now question.entry.admit.now) watch.old watch.new }
 {
+    let Question {
+        circuit,
+        admit,
+        required,
+        ..
+    } = question;
     let problem = Problem {
         circuit,
         admit,
@@ -190,25 +214,29 @@ fn by_all<W: Watch, R: Threads + Wait + Sync>(
     let known = search(rt, alloc, &problem, &Own, first, watch)?;
     let left = budget - nodes;
     if left == 0 {
-        return Ok(known);
+        return Ok(Found::of(known));
     }
     let known = bounded_by_edges(alloc, &problem, known, nodes);
-    if !is_open(&known) {
-        return Ok(known);
+    if !is_open(&known) || is_answered(required, &known) {
+        return Ok(Found::of(known));
     }
     let more = nodes_of(circuit, SECOND, left / 2);
     let most = nodes_of(circuit, LAST, (left - more) / 2);
     let second = with_nodes(limits, more);
     let led = led_further(rt, alloc, circuit, admit, known, second, watch);
+    if is_answered(required, &led) {
+        return Ok(Found::of(led));
+    }
     let work = left - more - most;
-    let further = with_work(limits, work);
+    let further = with_work(limits, work, required);
     let shown = refuted_further(rt, alloc, &problem, led, nodes + more, further);
-    if is_exact(&shown) {
+    if is_exact(&shown.answer) || is_answered(required, &shown.answer) {
         return Ok(shown);
     }
+    let Found { answer, refuted } = shown;
     let last = with_nodes(limits, most);
-    let known = led_further(rt, alloc, circuit, admit, shown, last, watch);
-    Ok(known)
+    let answer = led_further(rt, alloc, circuit, admit, answer, last, watch);
+    Ok(Found { answer, refuted })
 }
 
 // The same limits with fewer nodes.
@@ -226,13 +254,14 @@ fn with_nodes(limits: Limits<'_>, budget: u64) -> Limits<'_>
 }
 
 // The effort of as many workers for a refutation, with so much work.
-fn with_work(limits: Limits<'_>, work: u64) -> Refuting<'_>
+fn with_work(limits: Limits<'_>, work: u64, required: Option<u64>) -> Refuting<'_>
     ensures stop { result.stop.now ≡ limits.entry.stop.now }
 {
     let Limits { effort, stop } = limits;
     let mut further = Refuting::until(stop);
     further.work = work;
     further.workers = effort.workers;
+    further.required = required;
     further
 }
 

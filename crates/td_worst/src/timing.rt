@@ -1,26 +1,26 @@
 //! The search for the worst delay within a time.
 
-ghost use Rattle.std.specs.Prelude.{◌≡◌, ◌≤◌, true, length, is_some, IfOk, IfErr};
+ghost use Rattle.std.specs.Prelude.{◌≡◌, ◌≤◌, true, length, is_some, IfOk, IfErr, IfSome};
+ghost use Rattle.td_circuit.specs.Numbering.{setting};
+ghost use Rattle.td_refute.specs.Answers.{IsShown};
 ghost use Rattle.td_search.specs.declared.strategy.Strategy.TheVariants as strategy;
 ghost use Rattle.td_search.specs.Answers.{IsAnswer, TimeNeedsStop};
 ghost use Rattle.td_search.specs.Problems.{problem_by};
 ghost use Rattle.td_search.specs.Written.{CanBeWritten};
 ghost use Rattle.td_worst.specs.declared.method.Method.TheVariants as by_method;
-ghost use Rattle.td_worst.specs.Methods.{tree_of, first_nodes, goes_further, IsAnswerBy, IsWithinEdges};
+ghost use Rattle.td_worst.specs.Methods.{problem_in, first_nodes, goes_further, IsAnswerBy, IsWithinEdges};
 ghost use Rattle.td_worst.specs.Faults.{IsWorstFault};
 
 use crate::fault::WorstFault;
-use crate::method::Method;
+use crate::found::Found;
+use crate::question::Question;
 use crate::searching::worst_until;
 use std::alloc::Global;
 use std::sync::Wait;
 use std::thread;
 use std::thread::Threads;
 use std::time::Clock;
-use td_circuit::Circuit;
-use td_domain::Admit;
 use td_pool::{Borrowed, Effort, Limits, Watch, take_back};
-use td_search::Answer;
 use td_stop::{Stop, Timer};
 
 /// How much a search may do, and where that is limited, for how many seconds of a clock.
@@ -48,27 +48,27 @@ pub(crate) struct Timed<'a> {
 pub fn worst<W: Watch, R: Threads + Wait + Clock + Sync>(
     rt: &R,
     alloc: Global,
-    circuit: &Circuit,
-    admit: &Admit,
-    method: Method,
+    question: Question<'_>,
     effort: TimedEffort,
     watch: &mut W,
-) -> Result<Answer, WorstFault>
-    requires held { length admit.now.held ≡ length circuit.now.netlist.inputs }
-    ensures answer { IfOk result (IsAnswerBy method (problem_by (tree_of method) circuit.now admit.now) effort.effort.budget) }
+) -> Result<Found, WorstFault>
+    requires held { length question.admit.now.held ≡ length question.circuit.now.netlist.inputs }
+    ensures answer { IfOk result (λ found. IsAnswerBy question.entry.method (problem_in question.entry) effort.effort.budget found.answer) }
     // Where the budget ends with its first tree, `Auto` answers as `Least` does.
-    ensures first { method ≡ by_method.Auto → effort.effort.budget ≤ first_nodes (length circuit.now.netlist.gates)
-        → IfOk result (IsAnswer (problem_by strategy.Least circuit.now admit.now) effort.effort.budget) }
+    ensures first { question.entry.method ≡ by_method.Auto → effort.effort.budget ≤ first_nodes (length question.entry.circuit.now.netlist.gates)
+        → IfOk result (λ found. IsAnswer (problem_by strategy.Least question.entry.circuit.now question.entry.admit.now) effort.effort.budget found.answer) }
     // Where it goes on, the upper figure is at most the bound by edges.
-    ensures edges { goes_further method (length circuit.now.netlist.gates) effort.effort.budget ≡ true
-        → IfOk result (IsWithinEdges (problem_by (tree_of method) circuit.now admit.now)) }
+    ensures edges { goes_further question.entry.method (length question.entry.circuit.now.netlist.gates) effort.effort.budget ≡ true
+        → IfOk result (λ found. IsWithinEdges (problem_in question.entry) found.answer) }
     // The certificate of an exact answer has a text within the limit.
-    ensures text { IfOk result (CanBeWritten (problem_by (tree_of method) circuit.now admit.now)) }
+    ensures text { IfOk result (λ found. CanBeWritten (problem_in question.entry) found.answer) }
     // Time is a cause only where seconds are given.
-    ensures time { IfOk result (TimeNeedsStop (is_some effort.seconds)) }
-    ensures fault { IfErr result (IsWorstFault (is_some effort.seconds) (problem_by (tree_of method) circuit.now admit.now)) }
+    ensures time { IfOk result (λ found. TimeNeedsStop (is_some effort.seconds) found.answer) }
+    // The steps show their bound.
+    ensures shown { IfOk result (λ found. IfSome found.refuted (IsShown (setting question.entry.circuit.now) question.entry.admit.now)) }
+    ensures fault { IfErr result (IsWorstFault (is_some effort.seconds) (problem_in question.entry)) }
     // All progress that the watch got is true of what is asked.
-    ensures reported { W.reported (problem_by (tree_of method) circuit.now admit.now) watch.old watch.new }
+    ensures reported { W.reported (problem_in question.entry) watch.old watch.new }
 {
     let TimedEffort { effort, seconds } = effort;
     let Some(seconds) = seconds else {
@@ -77,7 +77,7 @@ pub fn worst<W: Watch, R: Threads + Wait + Clock + Sync>(
             effort,
             stop: &stop,
         };
-        let found = worst_until(rt, alloc, circuit, admit, method, limits, watch)?;
+        let found = worst_until(rt, alloc, question, limits, watch)?;
         return Ok(found);
     };
     if !Timer::can_run(rt) {
@@ -94,7 +94,7 @@ pub fn worst<W: Watch, R: Threads + Wait + Clock + Sync>(
         seconds,
     };
     let borrowed = Borrowed { watch };
-    let (found, borrowed) = worst_within(rt, alloc, circuit, admit, method, timed, borrowed);
+    let (found, borrowed) = worst_within(rt, alloc, question, timed, borrowed);
     let Borrowed { watch } = borrowed;
     take_back(watch);
     found
@@ -104,21 +104,20 @@ pub fn worst<W: Watch, R: Threads + Wait + Clock + Sync>(
 fn worst_within<W: Watch, R: Threads + Wait + Clock + Sync>(
     rt: &R,
     alloc: Global,
-    circuit: &Circuit,
-    admit: &Admit,
-    method: Method,
+    question: Question<'_>,
     timed: Timed<'_>,
     watch: W,
-) -> (Result<Answer, WorstFault>, W)
-    requires held { length admit.now.held ≡ length circuit.now.netlist.inputs }
-    ensures answer { IfOk result.0 (IsAnswerBy method (problem_by (tree_of method) circuit.now admit.now) timed.entry.limits.effort.budget) }
-    ensures first { method ≡ by_method.Auto → timed.entry.limits.effort.budget ≤ first_nodes (length circuit.now.netlist.gates)
-        → IfOk result.0 (IsAnswer (problem_by strategy.Least circuit.now admit.now) timed.entry.limits.effort.budget) }
-    ensures edges { goes_further method (length circuit.now.netlist.gates) timed.entry.limits.effort.budget ≡ true
-        → IfOk result.0 (IsWithinEdges (problem_by (tree_of method) circuit.now admit.now)) }
-    ensures text { IfOk result.0 (CanBeWritten (problem_by (tree_of method) circuit.now admit.now)) }
-    ensures fault { IfErr result.0 (IsWorstFault true (problem_by (tree_of method) circuit.now admit.now)) }
-    ensures reported { W.reported (problem_by (tree_of method) circuit.now admit.now) watch result.1 }
+) -> (Result<Found, WorstFault>, W)
+    requires held { length question.admit.now.held ≡ length question.circuit.now.netlist.inputs }
+    ensures answer { IfOk result.0 (λ found. IsAnswerBy question.entry.method (problem_in question.entry) timed.entry.limits.effort.budget found.answer) }
+    ensures first { question.entry.method ≡ by_method.Auto → timed.entry.limits.effort.budget ≤ first_nodes (length question.entry.circuit.now.netlist.gates)
+        → IfOk result.0 (λ found. IsAnswer (problem_by strategy.Least question.entry.circuit.now question.entry.admit.now) timed.entry.limits.effort.budget found.answer) }
+    ensures edges { goes_further question.entry.method (length question.entry.circuit.now.netlist.gates) timed.entry.limits.effort.budget ≡ true
+        → IfOk result.0 (λ found. IsWithinEdges (problem_in question.entry) found.answer) }
+    ensures text { IfOk result.0 (λ found. CanBeWritten (problem_in question.entry) found.answer) }
+    ensures shown { IfOk result.0 (λ found. IfSome found.refuted (IsShown (setting question.entry.circuit.now) question.entry.admit.now)) }
+    ensures fault { IfErr result.0 (IsWorstFault true (problem_in question.entry)) }
+    ensures reported { W.reported (problem_in question.entry) watch result.1 }
 {
     let Timed {
         limits,
@@ -129,22 +128,23 @@ fn worst_within<W: Watch, R: Threads + Wait + Clock + Sync>(
     thread::scope(
         thread::scope_env(),
         rt,
-        |scope| -> (Result<Answer, WorstFault>, W)
-            requires held { length admit.now.held ≡ length circuit.now.netlist.inputs }
-            ensures answer { IfOk result.0 (IsAnswerBy method (problem_by (tree_of method) circuit.entry.now admit.entry.now) limits.entry.effort.budget) }
-            ensures first { method ≡ by_method.Auto → limits.entry.effort.budget ≤ first_nodes (length circuit.entry.now.netlist.gates)
-                → IfOk result.0 (IsAnswer (problem_by strategy.Least circuit.entry.now admit.entry.now) limits.entry.effort.budget) }
-            ensures edges { goes_further method (length circuit.entry.now.netlist.gates) limits.entry.effort.budget ≡ true
-                → IfOk result.0 (IsWithinEdges (problem_by (tree_of method) circuit.entry.now admit.entry.now)) }
-            ensures text { IfOk result.0 (CanBeWritten (problem_by (tree_of method) circuit.entry.now admit.entry.now)) }
-            ensures fault { IfErr result.0 (IsWorstFault true (problem_by (tree_of method) circuit.entry.now admit.entry.now)) }
-            ensures reported { W.reported (problem_by (tree_of method) circuit.entry.now admit.entry.now) watch result.1 }
+        |scope| -> (Result<Found, WorstFault>, W)
+            requires held { length question.admit.now.held ≡ length question.circuit.now.netlist.inputs }
+            ensures answer { IfOk result.0 (λ found. IsAnswerBy question.entry.method (problem_in question.entry) limits.entry.effort.budget found.answer) }
+            ensures first { question.entry.method ≡ by_method.Auto → limits.entry.effort.budget ≤ first_nodes (length question.entry.circuit.now.netlist.gates)
+                → IfOk result.0 (λ found. IsAnswer (problem_by strategy.Least question.entry.circuit.now question.entry.admit.now) limits.entry.effort.budget found.answer) }
+            ensures edges { goes_further question.entry.method (length question.entry.circuit.now.netlist.gates) limits.entry.effort.budget ≡ true
+                → IfOk result.0 (λ found. IsWithinEdges (problem_in question.entry) found.answer) }
+            ensures text { IfOk result.0 (λ found. CanBeWritten (problem_in question.entry) found.answer) }
+            ensures shown { IfOk result.0 (λ found. IfSome found.refuted (IsShown (setting question.entry.circuit.now) question.entry.admit.now)) }
+            ensures fault { IfErr result.0 (IsWorstFault true (problem_in question.entry)) }
+            ensures reported { W.reported (problem_in question.entry) watch result.1 }
         {
             let mut watch = watch;
             let Ok(running) = scope.spawn(move || timer.run(rt, seconds, stop)) else {
                 return (Err(WorstFault::NoTimer), watch);
             };
-            let found = worst_until(rt, alloc, circuit, admit, method, limits, &mut watch);
+            let found = worst_until(rt, alloc, question, limits, &mut watch);
             timer.end(rt);
             running.join(rt);
             match found {

@@ -4,4 +4,6 @@
 #[cfg(test)]
 mod methods;
 #[cfg(test)]
+mod required;
+#[cfg(test)]
 mod seconds;

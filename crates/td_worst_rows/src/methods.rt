@@ -15,7 +15,7 @@ use td_gates::Delay;
 use td_netlist::read;
 use td_pool::{Effort, Unwatched};
 use td_search::{Answer, Cause};
-use td_worst::{Method, TimedEffort, WorstFault, worst};
+use td_worst::{Method, Question, TimedEffort, WorstFault, worst};
 
 /// A pulse of one step that the second gate swallows. Edges bound it by 3.
 const PULSE: &str =
@@ -34,7 +34,7 @@ const INVERTERS: &str =
     "module m(a, y); input a; output y; not #(1,5) n(b, a); not #(1,5) g(y, b); endmodule";
 
 /// The circuit of a netlist. The error is out of memory, or a text that is refused.
-fn circuit_of(alloc: Global, text: &str) -> Result<Circuit, AllocError> {
+pub fn circuit_of(alloc: Global, text: &str) -> Result<Circuit, AllocError> {
     let unit = Delay { rise: 1, fall: 1 };
     let Ok(netlist) = read(alloc, text.as_bytes(), unit) else {
         return Err(AllocError);
@@ -46,7 +46,7 @@ fn circuit_of(alloc: Global, text: &str) -> Result<Circuit, AllocError> {
 }
 
 /// All pairs of a circuit.
-fn all_of(rt: &impl Abort, alloc: Global, circuit: &Circuit) -> Result<Admit, AllocError>
+pub fn all_of(rt: &impl Abort, alloc: Global, circuit: &Circuit) -> Result<Admit, AllocError>
     ensures { IfOk result (λ admit. length admit.held ≡ length circuit.now.netlist.inputs) }
 {
     let inputs = circuit.input_count();
@@ -85,7 +85,16 @@ pub fn answer_of<R: Threads + Wait + Clock + Sync + Abort>(
 ) -> Result<Result<Answer, WorstFault>, Fail> {
     let circuit = circuit_of(alloc, netlist)?;
     let admit = all_of(rt, alloc, &circuit)?;
-    Ok(worst(rt, alloc, &circuit, &admit, method, effort, &mut Unwatched))
+    let question = Question {
+        circuit: &circuit,
+        admit: &admit,
+        method,
+        required: None,
+    };
+    match worst(rt, alloc, question, effort, &mut Unwatched) {
+        Ok(found) => Ok(Ok(found.answer)),
+        Err(fault) => Ok(Err(fault)),
+    }
 }
 
 /// The time of an exact answer, how many nodes its tree has, and whether one of them is refuted.

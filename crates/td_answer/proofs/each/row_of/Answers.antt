@@ -9,6 +9,7 @@ use Rattle.td_source.specs.Each.{alone}
 use Rattle.td_source.proofs.OneOutput.{named_there}
 use Rattle.td_certificate.specs.Accepts.{are_fit}
 use Rattle.td_question.specs.Keeping.{count_nets}
+use Rattle.td_answer.specs.Columns.{HasChanges, pairs_of}
 use Rattle.td_answer.specs.Names.{label}
 use Rattle.td_answer.specs.Tables.{AreTrueFigures}
 use Rattle.td_answer.proofs.each.row_of.Goals as goal
@@ -19,7 +20,7 @@ timing_of-requires-clause-held g c κs lives =
     let at = subst (λ (ns : List Name). slice_get ns c.args.place ≡ Some (name_of c.index-names-place.result)) c.names.ensures
     (named_there c.names.result.now c.args.place c.index-names-place.result within c.index-names-place.is) in
     let asked = c.in_ok-ask.ensures.asked (name_of c.index-names-place.result) at in
-    rw c.circuit.ensures (c.requires.held ∙ ap (λ (s : Setting). length s.netlist.inputs) (sym asked))
+    rw c.circuit-circuit.ensures (c.requires.held ∙ ap (λ (s : Setting). length s.netlist.inputs) (sym asked))
 
 pub timing_of-requires-clause-fit : goal.timing_of-requires-clause-fit
 timing_of-requires-clause-fit g c κs lives =
@@ -27,7 +28,31 @@ timing_of-requires-clause-fit g c κs lives =
     let at = subst (λ (ns : List Name). slice_get ns c.args.place ≡ Some (name_of c.index-names-place.result)) c.names.ensures
     (named_there c.names.result.now c.args.place c.index-names-place.result within c.index-names-place.is) in
     let asked = c.in_ok-ask.ensures.asked (name_of c.index-names-place.result) at in
-    rw c.circuit.ensures (subst (λ (s : Setting). are_fit (count_nets s.netlist) c.args.pairs.keep.now ≡ true) (sym asked) c.requires.fit)
+    rw c.circuit-circuit.ensures (subst (λ (s : Setting). are_fit (count_nets s.netlist) c.args.inquiry.keep.now ≡ true) (sym asked) c.requires.fit)
+
+pub changes_in-requires-clause-held : goal.changes_in-requires-clause-held
+changes_in-requires-clause-held g c κs lives =
+    let within : c.args.place < length c.names.result.now = omega (arith, length-map c.names.result.now name_of, ap (λ (ns : List Name). length ns) c.names.ensures, c.requires.place) in
+    let at = subst (λ (ns : List Name). slice_get ns c.args.place ≡ Some (name_of c.index-names-place.result)) c.names.ensures
+    (named_there c.names.result.now c.args.place c.index-names-place.result within c.index-names-place.is) in
+    let asked = c.in_ok-ask.ensures.asked (name_of c.index-names-place.result) at in
+    rw c.circuit-circuit.ensures (c.requires.held ∙ ap (λ (s : Setting). length s.netlist.inputs) (sym asked))
+
+pub changes_in-requires-clause-fit : goal.changes_in-requires-clause-fit
+changes_in-requires-clause-fit g c κs lives =
+    let within : c.args.place < length c.names.result.now = omega (arith, length-map c.names.result.now name_of, ap (λ (ns : List Name). length ns) c.names.ensures, c.requires.place) in
+    let at = subst (λ (ns : List Name). slice_get ns c.args.place ≡ Some (name_of c.index-names-place.result)) c.names.ensures
+    (named_there c.names.result.now c.args.place c.index-names-place.result within c.index-names-place.is) in
+    let asked = c.in_ok-ask.ensures.asked (name_of c.index-names-place.result) at in
+    rw c.circuit-circuit.ensures (subst (λ (s : Setting). are_fit (count_nets s.netlist) c.args.inquiry.keep.now ≡ true) (sym asked) c.requires.fit)
+
+pub changes_in-requires-clause-output : goal.changes_in-requires-clause-output
+changes_in-requires-clause-output g c κs lives =
+    let within : c.args.place < length c.names.result.now = omega (arith, length-map c.names.result.now name_of, ap (λ (ns : List Name). length ns) c.names.ensures, c.requires.place) in
+    let at = subst (λ (ns : List Name). slice_get ns c.args.place ≡ Some (name_of c.index-names-place.result)) c.names.ensures
+    (named_there c.names.result.now c.args.place c.index-names-place.result within c.index-names-place.is) in
+    let asked = c.in_ok-ask.ensures.asked (name_of c.index-names-place.result) at in
+    rw c.circuit-circuit.ensures (ap (λ (s : Setting). length s.netlist.outputs) asked)
 
 pub returns-clause-row : goal.returns-clause-row
 returns-clause-row g c = λ output stands.
@@ -36,8 +61,11 @@ returns-clause-row g c = λ output stands.
     (named_there c.names.result.now c.args.place c.index-names-place.result within c.index-names-place.is) in
     let asked = c.in_ok-ask.ensures.asked (name_of c.index-names-place.result) at in
     let same = some-same (name_of c.index-names-place.result) output (sym at ∙ stands) in
+    let there = asked ∙ ap (alone (setting c.args.outputs.now.whole)) same in
     record {
       named = c.in_ok-output.ensures ∙ ap label same;
-      figures = subst (λ (s : Setting). AreTrueFigures s (record { admit = c.args.pairs.admit.now; keep = c.args.pairs.keep.now }) c.in_ok-found.field-0.found c.in_ok-found.field-0.edges)
-          (asked ∙ ap (alone (setting c.args.outputs.now.whole)) same) (rw c.circuit.ensures at c.in_ok-found.ensures.timing);
+      figures = subst (λ (s : Setting). AreTrueFigures s (pairs_of c.args.inquiry) c.in_ok-found.field-0.found c.in_ok-found.field-0.edges) there
+          (rw c.circuit-circuit.ensures at c.in_ok-found.ensures.timing);
+      changes = subst (λ (s : Setting). HasChanges c.args.inquiry.search.now.table s (pairs_of c.args.inquiry) c.in_ok-changes.changes) there
+          (rw c.circuit-circuit.ensures at c.in_ok-changes.ensures.changes);
     }

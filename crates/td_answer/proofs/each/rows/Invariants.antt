@@ -1,6 +1,7 @@
 use Rattle.std.proofs.Common.{◌≡◌, take}
 use Rattle.std.specs.List.{AllZip}
 use Rattle.td_circuit.specs.Numbering.{setting}
+use Rattle.td_answer.specs.Columns.{pairs_of}
 use Rattle.td_answer.specs.Tables.{IsTrueRow}
 use Rattle.td_answer.proofs.each.rows.Given as goal
 
@@ -8,4 +9,4 @@ use Rattle.td_answer.proofs.each.rows.Given as goal
 abbrev pub invariant-loop-place : goal.invariant-loop-place
 invariant-loop-place g l =
     (l.outputs.whole ≡ l.initial.outputs.whole)
-    × AllZip (IsTrueRow (setting l.initial.outputs.whole) (record { admit = l.pairs.admit.now; keep = l.pairs.keep.now })) (take l.place l.initial.outputs.whole.netlist.outputs) l.rows.items
+    × AllZip (IsTrueRow (setting l.initial.outputs.whole) (pairs_of l.inquiry) l.inquiry.search.now.table) (take l.place l.initial.outputs.whole.netlist.outputs) l.rows.items

@@ -1,14 +1,14 @@
 use Rattle.std.proofs.Common.{refl, inl, inr}
 use Rattle.std.proofs.lemmas.Result.{err_from_is_err_and}
 use Rattle.td_circuit.specs.Numbering.{setting}
-use Rattle.td_answer.specs.Joins.{texts_of}
+use Rattle.td_answer.proofs.Filling.{asks_same}
 use Rattle.td_answer.proofs.Whole.{admits_asked, parts_spelled, whole_true}
 use Rattle.td_answer.proofs.join.join.Goals as goal
 
 pub returns-in_err-sought-clause-refusal : goal.returns-in_err-sought-clause-refusal
 returns-in_err-sought-clause-refusal c =
     let reported = err_from_is_err_and c.from_residual.result c.from_residual.ensures.1 in
-    rw (reported.1, reported.2) (inl c.in_err-sought.ensures.fault)
+    rw (reported.1, reported.2) (inl (rw c.with_text-question.ensures at c.in_err-sought.ensures.fault))
 
 pub returns-in_err-parts-clause-refusal : goal.returns-in_err-parts-clause-refusal
 returns-in_err-parts-clause-refusal c =
@@ -26,7 +26,11 @@ returns-in_err-whole-clause-refusal c =
       setting = setting c.in_ok-sought.sought.circuit;
       asking = record { admit = c.in_ok-sought.sought.admit; keep = c.in_ok-sought.sought.keep.items };
       parts = c.in_ok-parts.parts.items;
-      to_join = record { asks = record { asked = c.in_ok-sought.ensures.asked; keep = c.in_ok-sought.ensures.keep }; are_parts = rw c.names-names.ensures at c.in_ok-parts.ensures.parts };
+      to_join = record {
+        asks = asks_same c.args.texts.now.netlist.now c.args.reading.now _ _ (setting c.in_ok-sought.sought.circuit) c.in_ok-sought.sought.admit
+            c.in_ok-sought.sought.keep.items c.with_text-question.ensures c.in_ok-sought.ensures.asked c.in_ok-sought.ensures.keep;
+        are_parts = rw c.names-names.ensures at c.in_ok-parts.ensures.parts;
+      };
       unjoined = rw c.names-names.ensures at c.in_err-whole.ensures.refusal;
     })))
 
@@ -40,13 +44,17 @@ returns-clause-says c =
     let are = rw c.names-names.ensures at c.in_ok-parts.ensures.parts in
     let circuit = c.in_ok-sought.ensures.asked.circuit in
     let netlist = c.in_ok-sought.sought.circuit.netlist in
-    let spelled = c.in_ok-whole.ensures.spelled (parts_spelled c.args.text.now c.args.reading.now netlist circuit
+    let spelled = c.in_ok-whole.ensures.spelled (parts_spelled c.args.texts.now.netlist.now c.args.reading.now netlist circuit
     c.args.asked.now.check _ _ c.in_ok-parts.parts.items are) in
     record {
       setting = setting c.in_ok-sought.sought.circuit;
       asking = record { admit = c.in_ok-sought.sought.admit; keep = c.in_ok-sought.sought.keep.items };
       parts = c.in_ok-parts.parts.items;
-      to_join = record { asks = record { asked = c.in_ok-sought.ensures.asked; keep = c.in_ok-sought.ensures.keep }; are_parts = are };
+      to_join = record {
+        asks = asks_same c.args.texts.now.netlist.now c.args.reading.now _ _ (setting c.in_ok-sought.sought.circuit) c.in_ok-sought.sought.admit
+            c.in_ok-sought.sought.keep.items c.with_text-question.ensures c.in_ok-sought.ensures.asked c.in_ok-sought.ensures.keep;
+        are_parts = are;
+      };
       joined = c.in_ok-whole.ensures.joined;
       admits = admits_asked _ _ (record { admit = c.in_ok-sought.sought.admit; keep = c.in_ok-sought.sought.keep.items }) c.in_ok-whole.whole c.in_ok-whole.ensures.joined c.in_ok-whole.ensures.asked;
       keeps = c.in_ok-whole.ensures.asked.keep;
@@ -54,7 +62,7 @@ returns-clause-says c =
       has_text = spelled;
       few = c.in_ok-whole.ensures.few;
       accepted = c.in_ok-whole.ensures.accepted;
-      claims = whole_true c.args.text.now c.args.reading.now netlist circuit c.args.asked.now.check _ _
+      claims = whole_true c.args.texts.now.netlist.now c.args.reading.now netlist circuit c.args.asked.now.check _ _
           c.in_ok-parts.parts.items _ c.in_ok-whole.whole c.gates-gates.ensures.numbering.well_formed are c.in_ok-whole.ensures.joined spelled c.in_ok-whole.ensures.accepted;
       is = c.in_ok-report.ensures;
       ends = refl;

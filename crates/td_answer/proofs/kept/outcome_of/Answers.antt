@@ -1,8 +1,8 @@
 use Rattle.std.specs.Prelude.{is_some, false, None}
 use Rattle.td_circuit.specs.Numbering.{setting}
 use Rattle.td_answer.specs.Runs.{RunsPair}
-use Rattle.td_answer.proofs.KeptOnes.{best_fits, exact_says, between_says, at_most_says, none_says, exact_kept, none_kept, open_kept, certificate_written}
-use Rattle.td_answer.proofs.Writable.{certificate_and_dump, dumped_written}
+use Rattle.td_answer.proofs.KeptOnes.{best_fits, exact_says, between_says, at_most_says, none_says, exact_kept, none_kept, between_kept, open_kept, certificate_written, open_written}
+use Rattle.td_answer.proofs.Writable.{certificate_and_dump, spelled_and_dump}
 use Rattle.td_answer.proofs.kept.outcome_of.Goals as goal
 
 pub exact-requires-clause-first_fits : goal.exact-requires-clause-first_fits
@@ -11,11 +11,20 @@ exact-requires-clause-first_fits c = (best_fits c.args.circuit _ c.in-Exact.best
 pub exact-requires-clause-second_fits : goal.exact-requires-clause-second_fits
 exact-requires-clause-second_fits c = (best_fits c.args.circuit _ c.in-Exact.best (rw c.in-Exact.is at c.requires.answer).0.timed).1
 
-pub between-requires-clause-first_fits : goal.between-requires-clause-first_fits
-between-requires-clause-first_fits c = (best_fits c.args.circuit _ c.in-Between.best (rw c.in-Between.is at c.requires.answer).timed).0
-
-pub between-requires-clause-second_fits : goal.between-requires-clause-second_fits
-between-requires-clause-second_fits c = (best_fits c.args.circuit _ c.in-Between.best (rw c.in-Between.is at c.requires.answer).timed).1
+pub between-requires : goal.between-requires
+between-requires c =
+    let is = rw c.in-Between.is at c.requires.answer in
+    let fits = best_fits c.args.circuit _ c.in-Between.best is.0.timed in
+    record {
+      held = c.requires.held;
+      flips = c.requires.flips;
+      fit = c.requires.fit;
+      first_fits = fits.0;
+      second_fits = fits.1;
+      timed = is.0.timed;
+      ordered = is.0.ordered;
+      shown = is.1;
+    }
 
 pub returns-in_ok-closed-in-Exact-clause-says : goal.returns-in_ok-closed-in-Exact-clause-says
 returns-in_ok-closed-in-Exact-clause-says c = λ text reading asked.
@@ -26,7 +35,7 @@ pub returns-in_ok-closed-in-Exact-clause-certified : goal.returns-in_ok-closed-i
 returns-in_ok-closed-in-Exact-clause-certified c = λ text reading asked are_outputs same.
     exact_kept c.args.circuit c.args.admit c.args.told c.args.search.now text reading asked c.in_ok-closed-in-Exact.closed are_outputs same
     c.in_ok-closed-in-Exact.ensures.told c.in_ok-closed-in-Exact.ensures.few c.in-Exact.best c.in-Exact.tree
-    (rw c.in-Exact.is at c.requires.answer).1 c.in_ok-closed-in-Exact.ensures.report c.in_ok-closed-in-Exact.ensures.certificate c.in_ok-closed-in-Exact.ensures.status
+    (rw c.in-Exact.is at c.requires.answer).1 c.in_ok-closed-in-Exact.ensures.report c.in_ok-closed-in-Exact.ensures.certificate
 
 pub returns-in_ok-closed-in-Exact-clause-written : goal.returns-in_ok-closed-in-Exact-clause-written
 returns-in_ok-closed-in-Exact-clause-written c =
@@ -36,20 +45,21 @@ returns-in_ok-closed-in-Exact-clause-written c =
     c.in_ok-closed-in-Exact.ensures.told c.in_ok-closed-in-Exact.ensures.few)
     c.in_ok-closed-in-Exact.ensures.dumped
 
-pub returns-in_ok-known-in-Between-clause-says : goal.returns-in_ok-known-in-Between-clause-says
-returns-in_ok-known-in-Between-clause-says c = λ text reading asked.
-    between_says c.args.circuit c.args.admit c.args.told c.args.search.now text reading asked c.in_ok-known-in-Between.known c.in-Between.best c.in-Between.high c.in-Between.cause
-    (rw c.in-Between.is at c.requires.answer) c.in_ok-known-in-Between.ensures.report c.in_ok-known-in-Between.ensures.status c.in_ok-known-in-Between.ensures.dumped
+pub returns-in_ok-lying-in-Between-clause-says : goal.returns-in_ok-lying-in-Between-clause-says
+returns-in_ok-lying-in-Between-clause-says c = λ text reading asked.
+    between_says c.args.circuit c.args.admit c.args.told c.args.search.now text reading asked c.in_ok-lying-in-Between.lying c.in-Between.best c.in-Between.high c.in-Between.cause
+    (rw c.in-Between.is at c.requires.answer).0 c.in_ok-lying-in-Between.ensures.report c.in_ok-lying-in-Between.ensures.status c.in_ok-lying-in-Between.ensures.dumped
 
-pub returns-in_ok-known-in-Between-clause-certified : goal.returns-in_ok-known-in-Between-clause-certified
-returns-in_ok-known-in-Between-clause-certified c = λ text reading asked are_outputs same.
-    open_kept c.args.circuit c.args.admit c.args.told c.args.search.now text reading asked c.in_ok-known-in-Between.known
-    c.in_ok-known-in-Between.ensures.certificate c.in_ok-known-in-Between.ensures.status
+pub returns-in_ok-lying-in-Between-clause-certified : goal.returns-in_ok-lying-in-Between-clause-certified
+returns-in_ok-lying-in-Between-clause-certified c = λ text reading asked are_outputs same.
+    between_kept c.args.circuit c.args.admit c.args.told c.args.search.now text reading asked c.in_ok-lying-in-Between.lying are_outputs same
+    c.in-Between.best c.in-Between.high c.in-Between.cause c.in_ok-lying-in-Between.ensures.certificate c.in_ok-lying-in-Between.ensures.report
 
-pub returns-in_ok-known-in-Between-clause-written : goal.returns-in_ok-known-in-Between-clause-written
-returns-in_ok-known-in-Between-clause-written c =
-    dumped_written (is_some c.args.search.now.dump) (setting c.args.circuit) (RunsPair (setting c.args.circuit) c.in-Between.best.pair) c.in_ok-known-in-Between.known
-    c.in_ok-known-in-Between.ensures.certificate c.in_ok-known-in-Between.ensures.dumped
+pub returns-in_ok-lying-in-Between-clause-written : goal.returns-in_ok-lying-in-Between-clause-written
+returns-in_ok-lying-in-Between-clause-written c =
+    spelled_and_dump (is_some c.args.search.now.dump) (setting c.args.circuit) (RunsPair (setting c.args.circuit) c.in-Between.best.pair) c.in_ok-lying-in-Between.lying
+    (open_written c.args.circuit c.args.admit c.args.told c.args.search.now c.in-Between.best c.in-Between.high c.in_ok-lying-in-Between.lying.certificate
+    c.in_ok-lying-in-Between.ensures.certificate) c.in_ok-lying-in-Between.ensures.dumped
 
 pub returns-in_ok-bounded-in-Open-clause-says : goal.returns-in_ok-bounded-in-Open-clause-says
 returns-in_ok-bounded-in-Open-clause-says c = λ text reading asked.
@@ -58,8 +68,8 @@ returns-in_ok-bounded-in-Open-clause-says c = λ text reading asked.
 
 pub returns-in_ok-bounded-in-Open-clause-certified : goal.returns-in_ok-bounded-in-Open-clause-certified
 returns-in_ok-bounded-in-Open-clause-certified c = λ text reading asked are_outputs same.
-    open_kept c.args.circuit c.args.admit c.args.told c.args.search.now text reading asked c.in_ok-bounded-in-Open.bounded
-    c.in_ok-bounded-in-Open.ensures.certificate c.in_ok-bounded-in-Open.ensures.status
+    open_kept c.args.circuit c.args.admit c.args.told c.args.search.now text reading asked c.in_ok-bounded-in-Open.bounded c.in-Open.high c.in-Open.cause
+    c.in_ok-bounded-in-Open.ensures.certificate c.in_ok-bounded-in-Open.ensures.report
 
 pub returns-in_ok-empty-in-NoPair-clause-says : goal.returns-in_ok-empty-in-NoPair-clause-says
 returns-in_ok-empty-in-NoPair-clause-says c = λ text reading asked.
@@ -70,7 +80,7 @@ pub returns-in_ok-empty-in-NoPair-clause-certified : goal.returns-in_ok-empty-in
 returns-in_ok-empty-in-NoPair-clause-certified c = λ text reading asked are_outputs same.
     none_kept c.args.circuit c.args.admit c.args.told c.args.search.now text reading asked c.in_ok-empty-in-NoPair.empty are_outputs same
     c.in_ok-empty-in-NoPair.ensures.told c.in_ok-empty-in-NoPair.ensures.few c.in-NoPair.tree
-    (rw c.in-NoPair.is at c.requires.answer).1 c.in_ok-empty-in-NoPair.ensures.report c.in_ok-empty-in-NoPair.ensures.certificate c.in_ok-empty-in-NoPair.ensures.status
+    (rw c.in-NoPair.is at c.requires.answer).1 c.in_ok-empty-in-NoPair.ensures.report c.in_ok-empty-in-NoPair.ensures.certificate
 
 pub returns-in_ok-empty-in-NoPair-clause-written : goal.returns-in_ok-empty-in-NoPair-clause-written
 returns-in_ok-empty-in-NoPair-clause-written c =

@@ -15,9 +15,13 @@ pub worst_kept-requires-clause-fit : goal.worst_kept-requires-clause-fit
 worst_kept-requires-clause-fit g c κs lives =
     rw c.deref.ensures.value (subst (λ (n : ℕ). are_fit n c.args.asked.keep.items ≡ true) (omega arith) c.requires.keep.rising)
 
-pub outcome_of-requires-clause-flips : goal.outcome_of-requires-clause-flips
-outcome_of-requires-clause-flips g c =
-    asked_flips c.args.text.now c.args.reading.now c.args.search.now.question (setting c.args.asked.circuit) c.args.asked.admit c.requires.asked
+pub outcome_of-requires : goal.outcome_of-requires
+outcome_of-requires g c = record {
+  held = asked_held c.args.text.now c.args.reading.now c.args.search.now.question (setting c.args.asked.circuit) c.args.asked.admit c.requires.asked;
+  flips = asked_flips c.args.text.now c.args.reading.now c.args.search.now.question (setting c.args.asked.circuit) c.args.asked.admit c.requires.asked;
+  fit = subst (λ (n : ℕ). are_fit n c.args.asked.keep.items ≡ true) (omega arith) c.requires.keep.rising;
+  answer = rw c.deref.ensures.value at c.in_ok-answer.ensures.answer;
+}
 
 pub returns-in_err-answer-clause-refusal : goal.returns-in_err-answer-clause-refusal
 returns-in_err-answer-clause-refusal g c =

@@ -6,4 +6,4 @@ use Rattle.td_answer.proofs.words.bad_keep.Goals as goal
 pub returns : goal.returns
 unfolding bad_keep_text
 returns c =
-    on_ok_weaker c.push-2.result (two_appended c.args.out.now _ _ _ c.args.word.now c.in_ok-push.ensures.appended) c.push-2.ensures.appended
+    on_ok_weaker c.quote.result (two_appended c.args.out.now _ _ _ _ c.in_ok-push.ensures.appended) c.quote.ensures

@@ -6,4 +6,4 @@ use Rattle.td_answer.proofs.words.no_net.Goals as goal
 pub returns : goal.returns
 unfolding no_net_text
 returns c =
-    on_ok_weaker c.push-2.result (two_appended c.args.out.now _ _ _ c.args.name.now c.in_ok-push.ensures.appended) c.push-2.ensures.appended
+    on_ok_weaker c.quote.result (two_appended c.args.out.now _ _ _ _ c.in_ok-push.ensures.appended) c.quote.ensures

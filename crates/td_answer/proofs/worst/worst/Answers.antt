@@ -1,13 +1,12 @@
-use Rattle.std.proofs.Common.{◌∙◌, inr, subst, refl, sym, ap, length}
+use Rattle.std.proofs.Common.{◌∙◌, inr, refl, sym, ap, length}
 use Rattle.std.proofs.lemmas.Bool.{eqb-false, eqb-true}
 use Rattle.std.proofs.lemmas.Result.{err_from_is_err_and, IfOk-weaker}
 use Rattle.td_circuit.specs.Numbering.{setting}
 use Rattle.td_search.specs.Problems.{problem_by}
-use Rattle.td_search.specs.declared.strategy.Strategy.{Strategy}
 use Rattle.td_worst.specs.Methods.{tree_of}
 use Rattle.td_worst.proofs.Outcomes.{outcome_by}
 use Rattle.td_question.proofs.Questions.{asked_held, asked_flips}
-use Rattle.td_answer.specs.Certificates.{read_by, CanBeTold}
+use Rattle.td_answer.specs.OpenCertificates.{told_with}
 use Rattle.std.specs.Prelude.{is_some}
 use Rattle.td_answer.specs.Conditions.{IsTrueSearch, IsCertifiedFor}
 use Rattle.td_answer.specs.Kept.{IsTrueKept, IsCertifiedAmong}
@@ -16,75 +15,81 @@ use Rattle.td_answer.specs.Runs.{RunsPair}
 use Rattle.td_answer.proofs.Writable.{searched_written}
 use Rattle.td_answer.proofs.Listing.{no_rows}
 use Rattle.td_answer.proofs.Chosen.{without, with_some, true_without, true_with, certified_without, certified_with}
-use Rattle.td_answer.proofs.Searched.{pair_fits, says, certified, refused}
+use Rattle.td_answer.proofs.Searched.{pair_fits, figures_of, says, certified, refused}
 use Rattle.td_answer.proofs.worst.worst.Goals as goal
 
 pub worst-requires-clause-held : goal.worst-requires-clause-held
 worst-requires-clause-held g c κs within =
     asked_held c.args.text.now c.args.reading.now c.args.search.now.question (setting c.in_ok-asked.asked.circuit) c.in_ok-asked.asked.admit c.in_ok-asked.ensures.asked
 
-pub outcome_of-requires-clause-flips : goal.outcome_of-requires-clause-flips
-outcome_of-requires-clause-flips g c =
-    asked_flips c.args.text.now c.args.reading.now c.args.search.now.question (setting c.in_ok-asked.asked.circuit) c.in_ok-asked.asked.admit c.in_ok-asked.ensures.asked
+pub outcome_of-requires : goal.outcome_of-requires
+outcome_of-requires g c =
+    let asked = c.in_ok-asked.asked in
+    let problem = problem_by (tree_of c.method_of-method.result) asked.circuit asked.admit in
+    let sound = outcome_by c.method_of-method.result problem c.effort_of-effort.result.effort.budget c.in_ok-found.found.answer c.in_ok-found.ensures.answer in
+    let fits = pair_fits c.method_of-method.result problem c.effort_of-effort.result.effort.budget c.in_ok-found.found.answer c.in_ok-found.ensures.answer in
+    let known = figures_of problem c.effort_of-effort.result.effort.budget c.in_ok-found.found.answer sound in
+    record {
+      held = asked_held c.args.text.now c.args.reading.now c.args.search.now.question (setting asked.circuit) asked.admit c.in_ok-asked.ensures.asked;
+      flips = asked_flips c.args.text.now c.args.reading.now c.args.search.now.question (setting asked.circuit) asked.admit c.in_ok-asked.ensures.asked;
+      bare = no_rows asked.keep.items (sym asked.keep.ok.0 ∙ eqb-true _ _ (sym c.is_empty.ensures ∙ c.if-not-is_empty.false));
+      first_fits = fits.0;
+      second_fits = fits.1;
+      has = known.0;
+      ordered = known.1;
+      shown = c.in_ok-found.ensures.shown;
+    }
 
-pub outcome_of-requires-clause-first_fits : goal.outcome_of-requires-clause-first_fits
-outcome_of-requires-clause-first_fits g c =
-    (pair_fits c.method_of-method.result _ c.effort_of-effort.result.effort.budget c.in_ok-answer.answer c.in_ok-answer.ensures.answer).0
-
-pub outcome_of-requires-clause-second_fits : goal.outcome_of-requires-clause-second_fits
-outcome_of-requires-clause-second_fits g c =
-    (pair_fits c.method_of-method.result _ c.effort_of-effort.result.effort.budget c.in_ok-answer.answer c.in_ok-answer.ensures.answer).1
-
-pub returns-in_err-answer-clause-refusal : goal.returns-in_err-answer-clause-refusal
-returns-in_err-answer-clause-refusal g c =
-    let reported = err_from_is_err_and c.from_residual-in_err-answer.result c.from_residual-in_err-answer.ensures.1 in
+pub returns-in_err-found-clause-refusal : goal.returns-in_err-found-clause-refusal
+returns-in_err-found-clause-refusal g c =
+    let reported = err_from_is_err_and c.from_residual-in_err-found.result c.from_residual-in_err-found.ensures.1 in
     rw (reported.1, reported.2) (refused c.args.text.now c.args.reading.now c.args.search.now c.in_ok-asked.asked.circuit c.in_ok-asked.asked.admit
-    (tree_of c.method_of-method.result) c.in_ok-asked.ensures.asked _ c.in_err-answer.field-0.0 c.effort_of-effort.ensures.timed c.in_err-answer.ensures.fault)
+    (tree_of c.method_of-method.result) c.in_ok-asked.ensures.asked _ c.in_err-found.field-0.0 c.effort_of-effort.ensures.timed c.in_err-found.ensures.fault)
 
 pub returns-clause-says : goal.returns-clause-says
 returns-clause-says g c =
     true_without c.args.text.now c.args.reading.now c.args.search.now c.in_ok-outcome.outcome (without c.args.search.now.question c.in_ok-asked.asked.circuit.netlist c.in_ok-asked.asked.keep.items c.in_ok-asked.ensures.keep
     (no_rows c.in_ok-asked.asked.keep.items (sym c.in_ok-asked.asked.keep.ok.0 ∙ eqb-true _ _ (sym c.is_empty.ensures ∙ c.if-not-is_empty.false))))
     (says c.args.text.now c.args.reading.now c.args.search.now c.in_ok-asked.asked.circuit c.in_ok-asked.asked.admit (tree_of c.method_of-method.result)
-    c.in_ok-asked.ensures.asked c.effort_of-effort.result.effort.budget c.in_ok-answer.answer c.in_ok-outcome.outcome
-    (outcome_by c.method_of-method.result _ c.effort_of-effort.result.effort.budget c.in_ok-answer.answer c.in_ok-answer.ensures.answer)
+    c.in_ok-asked.ensures.asked c.effort_of-effort.result.effort.budget c.in_ok-found.found.answer c.in_ok-outcome.outcome
+    (outcome_by c.method_of-method.result _ c.effort_of-effort.result.effort.budget c.in_ok-found.found.answer c.in_ok-found.ensures.answer)
     c.in_ok-outcome.ensures.report c.in_ok-outcome.ensures.status c.in_ok-outcome.ensures.dumped)
 
 pub returns-clause-certified : goal.returns-clause-certified
 returns-clause-certified g c =
-    certified_without c.args.text.now c.args.reading.now c.args.search.now.question c.in_ok-outcome.outcome (without c.args.search.now.question c.in_ok-asked.asked.circuit.netlist c.in_ok-asked.asked.keep.items c.in_ok-asked.ensures.keep
+    certified_without c.args.text.now c.args.reading.now c.args.search.now c.in_ok-outcome.outcome (without c.args.search.now.question c.in_ok-asked.asked.circuit.netlist c.in_ok-asked.asked.keep.items c.in_ok-asked.ensures.keep
     (no_rows c.in_ok-asked.asked.keep.items (sym c.in_ok-asked.asked.keep.ok.0 ∙ eqb-true _ _ (sym c.is_empty.ensures ∙ c.if-not-is_empty.false))))
     (certified c.args.text.now c.args.reading.now c.args.search.now c.in_ok-asked.asked.circuit c.in_ok-asked.asked.admit (tree_of c.method_of-method.result)
-    c.in_ok-asked.ensures.asked c.effort_of-effort.result.effort.budget (read_by c.args.reading.now.default c.in_ok-asked.asked.outputs) c.in_ok-answer.answer c.in_ok-outcome.outcome refl c.in_ok-asked.ensures.outputs
-    (outcome_by c.method_of-method.result _ c.effort_of-effort.result.effort.budget c.in_ok-answer.answer c.in_ok-answer.ensures.answer)
-    c.in_ok-answer.ensures.text
-    (subst (λ (s : Strategy). CanBeTold (read_by c.args.reading.now.default c.in_ok-asked.asked.outputs) s c.in_ok-answer.answer) c.strategy.ensures c.in_ok-outcome.ensures.told)
-    c.in_ok-outcome.ensures.report c.in_ok-outcome.ensures.status
+    c.in_ok-asked.ensures.asked (told_with c.args.reading.now.default c.in_ok-asked.asked.outputs c.in_ok-asked.asked.keep) refl
+    (no_rows c.in_ok-asked.asked.keep.items (sym c.in_ok-asked.asked.keep.ok.0 ∙ eqb-true _ _ (sym c.is_empty.ensures ∙ c.if-not-is_empty.false)))
+    c.in_ok-asked.ensures.outputs c.effort_of-effort.result.effort.budget c.in_ok-found.found.answer c.in_ok-outcome.outcome
+    (outcome_by c.method_of-method.result _ c.effort_of-effort.result.effort.budget c.in_ok-found.found.answer c.in_ok-found.ensures.answer)
+    c.in_ok-found.ensures.text c.in_ok-outcome.ensures.report
     (rw c.strategy.ensures at c.in_ok-outcome.ensures.certified))
 
 pub returns-clause-written : goal.returns-clause-written
 returns-clause-written g c =
-    searched_written c.args.text.now c.args.reading.now c.args.search.now.question (is_some c.args.search.now.dump) (setting c.in_ok-asked.asked.circuit)
-    (RunsPair (setting c.in_ok-asked.asked.circuit) (pair_in c.in_ok-answer.answer)) c.in_ok-outcome.outcome
+    searched_written c.args.text.now c.args.reading.now c.args.search.now (is_some c.args.search.now.dump) (setting c.in_ok-asked.asked.circuit)
+    (RunsPair (setting c.in_ok-asked.asked.circuit) (pair_in c.in_ok-found.found.answer)) c.in_ok-outcome.outcome
     (certified c.args.text.now c.args.reading.now c.args.search.now c.in_ok-asked.asked.circuit c.in_ok-asked.asked.admit (tree_of c.method_of-method.result)
-    c.in_ok-asked.ensures.asked c.effort_of-effort.result.effort.budget (read_by c.args.reading.now.default c.in_ok-asked.asked.outputs) c.in_ok-answer.answer c.in_ok-outcome.outcome refl c.in_ok-asked.ensures.outputs
-    (outcome_by c.method_of-method.result _ c.effort_of-effort.result.effort.budget c.in_ok-answer.answer c.in_ok-answer.ensures.answer)
-    c.in_ok-answer.ensures.text
-    (subst (λ (s : Strategy). CanBeTold (read_by c.args.reading.now.default c.in_ok-asked.asked.outputs) s c.in_ok-answer.answer) c.strategy.ensures c.in_ok-outcome.ensures.told)
-    c.in_ok-outcome.ensures.report c.in_ok-outcome.ensures.status
+    c.in_ok-asked.ensures.asked (told_with c.args.reading.now.default c.in_ok-asked.asked.outputs c.in_ok-asked.asked.keep) refl
+    (no_rows c.in_ok-asked.asked.keep.items (sym c.in_ok-asked.asked.keep.ok.0 ∙ eqb-true _ _ (sym c.is_empty.ensures ∙ c.if-not-is_empty.false)))
+    c.in_ok-asked.ensures.outputs c.effort_of-effort.result.effort.budget c.in_ok-found.found.answer c.in_ok-outcome.outcome
+    (outcome_by c.method_of-method.result _ c.effort_of-effort.result.effort.budget c.in_ok-found.found.answer c.in_ok-found.ensures.answer)
+    c.in_ok-found.ensures.text c.in_ok-outcome.ensures.report
     (rw c.strategy.ensures at c.in_ok-outcome.ensures.certified)) c.in_ok-outcome.ensures.dumped
 
 pub returns-clause-reported : goal.returns-clause-reported
 returns-clause-reported g c =
-    inr (problem_by (tree_of c.method_of-method.result) c.in_ok-asked.asked.circuit c.in_ok-asked.asked.admit, c.in_ok-asked.ensures.asked, c.in_ok-answer.ensures.reported)
+    inr (problem_by (tree_of c.method_of-method.result) c.in_ok-asked.asked.circuit c.in_ok-asked.asked.admit, c.in_ok-asked.ensures.asked, c.in_ok-found.ensures.reported)
 
-pub returns-in_err-answer-clause-reported : goal.returns-in_err-answer-clause-reported
-returns-in_err-answer-clause-reported g c =
-    inr (problem_by (tree_of c.method_of-method.result) c.in_ok-asked.asked.circuit c.in_ok-asked.asked.admit, c.in_ok-asked.ensures.asked, c.in_err-answer.ensures.reported)
+pub returns-in_err-found-clause-reported : goal.returns-in_err-found-clause-reported
+returns-in_err-found-clause-reported g c =
+    inr (problem_by (tree_of c.method_of-method.result) c.in_ok-asked.asked.circuit c.in_ok-asked.asked.admit, c.in_ok-asked.ensures.asked, c.in_err-found.ensures.reported)
 
 pub returns-in_err-outcome-clause-reported : goal.returns-in_err-outcome-clause-reported
 returns-in_err-outcome-clause-reported g c =
-    inr (problem_by (tree_of c.method_of-method.result) c.in_ok-asked.asked.circuit c.in_ok-asked.asked.admit, c.in_ok-asked.ensures.asked, c.in_ok-answer.ensures.reported)
+    inr (problem_by (tree_of c.method_of-method.result) c.in_ok-asked.asked.circuit c.in_ok-asked.asked.admit, c.in_ok-asked.ensures.asked, c.in_ok-found.ensures.reported)
 
 pub returns-then-not-is_empty-clause-says : goal.returns-then-not-is_empty-clause-says
 returns-then-not-is_empty-clause-says g c =
@@ -97,9 +102,9 @@ returns-then-not-is_empty-clause-says g c =
 pub returns-then-not-is_empty-clause-certified : goal.returns-then-not-is_empty-clause-certified
 returns-then-not-is_empty-clause-certified g c =
     IfOk-weaker c.worst_kept.result
-    (λ outcome. IsCertifiedAmong c.args.text.now c.args.reading.now c.args.search.now.question outcome.report outcome.certificate outcome.status)
-    (λ outcome. IsCertifiedFor c.args.text.now c.args.reading.now c.args.search.now.question outcome.report outcome.certificate outcome.status)
-    (λ outcome is. certified_with c.args.text.now c.args.reading.now c.args.search.now.question outcome
+    (λ outcome. IsCertifiedAmong c.args.text.now c.args.reading.now c.args.search.now outcome.report outcome.certificate)
+    (λ outcome. IsCertifiedFor c.args.text.now c.args.reading.now c.args.search.now outcome.report outcome.certificate)
+    (λ outcome is. certified_with c.args.text.now c.args.reading.now c.args.search.now outcome
     (with_some c.args.search.now.question c.in_ok-asked.asked.circuit.netlist c.in_ok-asked.asked.keep.items c.in_ok-asked.ensures.keep
     (λ none. eqb-false _ _ (sym c.is_empty.ensures ∙ c.if-not-is_empty.true) (c.in_ok-asked.asked.keep.ok.0 ∙ ap (λ keep. length keep) none))) is)
     c.worst_kept.ensures.certified

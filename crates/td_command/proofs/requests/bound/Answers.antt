@@ -6,3 +6,6 @@ returns-in_err-edges c = rw c.from_residual.ensures (only_bound (λ asked has. c
 
 pub returns-in_err-outputs : goal.returns-in_err-outputs
 returns-in_err-outputs c = rw c.from_residual-in_err-outputs.ensures (only_bound (λ asked has. c.in_err-outputs.ensures _ has.outputs))
+
+pub returns-in_err-earliest : goal.returns-in_err-earliest
+returns-in_err-earliest c = rw c.from_residual-in_err-earliest.ensures (only_bound (λ asked has. c.in_err-earliest.ensures _ has.earliest))

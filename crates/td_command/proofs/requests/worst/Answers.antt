@@ -13,5 +13,11 @@ returns-in_err-effort c = rw c.from_residual-in_err-effort.ensures (only_worst (
 pub returns-in_err-shown : goal.returns-in_err-shown
 returns-in_err-shown c = rw c.from_residual-in_err-shown.ensures (only_worst (λ asked has. c.in_err-shown.ensures _ has.shown))
 
-pub returns-in_err-each : goal.returns-in_err-each
-returns-in_err-each c = rw c.from_residual-in_err-each.ensures (only_worst (λ asked has. c.in_err-each.ensures _ has.each))
+pub returns-in_err-table : goal.returns-in_err-table
+returns-in_err-table c = rw c.from_residual-in_err-table.ensures (only_worst (λ asked has. c.in_err-table.ensures _ has.tables))
+
+pub returns-in_err-required : goal.returns-in_err-required
+returns-in_err-required c = rw c.from_residual-in_err-required.ensures (only_worst (λ asked has. c.in_err-required.ensures _ has.required))
+
+pub returns-in_err-between : goal.returns-in_err-between
+returns-in_err-between c = rw c.from_residual-in_err-between.ensures (only_worst (λ asked has. c.in_err-between.ensures _ has.between))

@@ -1,4 +1,4 @@
-use Rattle.std.proofs.Common.{◌∙◌, arith, sym, subst}
+use Rattle.std.proofs.Common.{arith, sym, subst}
 use Rattle.td_question.specs.Found.{IsPrinted}
 use Rattle.td_question.proofs.NetNames.{none_found, found_more, all_found}
 use Rattle.td_question.proofs.net_names.numbers_of.Goals as goal

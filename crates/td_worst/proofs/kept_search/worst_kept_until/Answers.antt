@@ -10,14 +10,14 @@ returns-then-effort-eq0-clause-edges g c = λ bound has. (rw c.pins-pins.ensures
 
 pub shown-requires : goal.shown-requires
 shown-requires g c = record {
-  small = small_best (setting c.args.circuit.now) (record { admit = c.args.admit.now; keep = c.args.keep.now }) c.in-Ok.answered.best c.in_ok-high.high
+  small = small_best (setting c.args.question.circuit.now) (record { admit = c.args.question.admit.now; keep = c.args.question.keep.now }) c.in-Ok.answered.best c.in_ok-high.high
       c.in-Ok.ensures.best (λ pair delay asked has. (rw c.pins-pins.ensures.pins at c.in_ok-high.ensures.sound) pair delay asked.admitted.pinned has)
       c.in_ok-high.ensures.small;
 }
 
 pub returns-in-Ok-clause-answer : goal.returns-in-Ok-clause-answer
 returns-in-Ok-clause-answer g c =
-    c.shown.ensures.answer (setting c.args.circuit.now) c.args.admit.now
+    c.shown.ensures.answer (setting c.args.question.circuit.now) c.args.question.admit.now
     (record {
       sizes = record {
         inputs = c.gates-gates.ensures.numbering.well_formed.few_inputs;

@@ -1,7 +1,7 @@
 use Rattle.std.proofs.Common.{◌-◌, length, arith}
 use Rattle.td_question.proofs.KeepWords.{no_parts_in}
-use Rattle.td_question.proofs.keeping.parts_of.Goals.{else-first-eq61-via-then-first-eq61+else-second-eq61, else-first-eq61-via-else-first-eq61}
-use Rattle.td_question.proofs.keeping.parts_of.Goals as goal
+use Rattle.td_question.proofs.keeping.word_parts.Goals.{else-first-eq61-via-then-first-eq61+else-second-eq61, else-first-eq61-via-else-first-eq61}
+use Rattle.td_question.proofs.keeping.word_parts.Goals as goal
 
 pub returns-in_err-form-in-len3-up-clause-none : goal.returns-in_err-form-in-len3-up-clause-none
 returns-in_err-form-in-len3-up-clause-none c =

@@ -1,0 +1,61 @@
+-- A required moment, and what is known of it.
+use Rattle.std.specs.Prelude.{◌≡◌, ℕ, ◌<◌, nat_lt, nat_le, ◌||◌, Bool, true, false, cond, List, [], ◌∷◌, Option, Some, None}
+use Rattle.td_search.specs.declared.answers.Cause.{Cause as SearchCause}
+use Rattle.td_search.specs.declared.answers.Cause.TheVariants as cause
+use Rattle.td_lines.specs.declared.line.Standing.{Standing}
+use Rattle.td_lines.specs.declared.line.Standing.TheVariants.{Met, Violated, Open}
+use Rattle.td_lines.specs.declared.line.Line.{Line}
+use Rattle.td_lines.specs.declared.line.Line.TheVariants as line
+use Rattle.td_lines.specs.declared.line.Cause.TheVariants as why
+use Rattle.td_answer.specs.declared.status.Status.{Status}
+use Rattle.td_answer.specs.declared.status.Status.TheVariants as status
+
+-- ---- by two figures: a pair has the lower one, and none is later than the upper one
+
+abbrev pub standing_of : ℕ → ℕ → ℕ → Standing
+standing_of moment low high = cond (nat_le high moment) Met (cond (nat_lt moment low) Violated Open)
+
+-- whether a moment is required, and they decide whether it is met
+abbrev pub is_decided : Option ℕ → ℕ → ℕ → Bool
+is_decided None low high = false
+is_decided (Some moment) low high = nat_le high moment || nat_lt moment low
+
+-- the line of a required moment, if there is one
+abbrev pub required_lines : Option ℕ → ℕ → ℕ → List Line
+required_lines None low high = []
+required_lines (Some moment) low high = line.Required moment (standing_of moment low high) ∷ []
+
+abbrev pub cause_line : SearchCause → Line
+cause_line cause.Budget = line.Cause why.Budget
+cause_line cause.Memory = line.Cause why.Memory
+cause_line cause.Time = line.Cause why.Time
+
+-- why figures are open: what was asked of a required moment is answered, or else why the search ended
+abbrev pub cause_by : Option ℕ → ℕ → ℕ → SearchCause → Line
+cause_by required low high found = cond (is_decided required low high) (line.Cause why.Required) (cause_line found)
+
+abbrev pub ending_of_standing : Standing → Status
+ending_of_standing Met = status.Done
+ending_of_standing Violated = status.Violated
+ending_of_standing Open = status.Between
+
+-- how a search ends: as its figures say, or as a required moment stands
+abbrev pub ending_by : Option ℕ → Status → ℕ → ℕ → Status
+ending_by None plain low high = plain
+ending_by (Some moment) plain low high = ending_of_standing (standing_of moment low high)
+
+-- ---- what is true of it
+
+-- It is met only where no pair that is asked about is later, and violated only where the given pair is:
+-- `bounded` says of a moment that none is later, `late` of a delay that the given pair has it.
+abbrev pub IsStanding : (ℕ → Type 0) → (ℕ → Type 0) → ℕ → Standing → Type 0
+IsStanding bounded late moment Met = bounded moment
+IsStanding bounded late moment Violated = (delay : ℕ) × late delay × (moment < delay)
+IsStanding bounded late moment Open = Unit {0}
+
+-- The lines say how the required moment stands, and the search ends so; where none is required, there is
+-- no such line, and the search ends as its figures say.
+abbrev pub TellsRequired : (ℕ → Type 0) → (ℕ → Type 0) → Status → Option ℕ → List Line → Status → Type 0
+TellsRequired bounded late plain None lines ending = (lines ≡ []) × (ending ≡ plain)
+TellsRequired bounded late plain (Some moment) lines ending =
+    (standing : Standing) × (lines ≡ line.Required moment standing ∷ []) × (ending ≡ ending_of_standing standing) × IsStanding bounded late moment standing

@@ -1,0 +1,197 @@
+//! Rows of outputs: what is found of each, as text and as JSON.
+
+ghost use Rattle.std.specs.Prelude.{◌≡◌, ◌++◌, codes, Some, None, OnOk};
+ghost use Rattle.json.specs.Tree.{json_tokens, items_tokens};
+ghost use Rattle.td_lines.specs.declared.line.Found.TheVariants as FoundAs;
+ghost use Rattle.td_lines.specs.Texts.{found_text, edges_text, late, column_text, changes_text, row_line};
+ghost use Rattle.td_lines.specs.Values.{Adds, column_value, changes_value, edges_value, found_value, row_value};
+
+use crate::line::{Changes, Found, Row};
+use crate::members::{Valued, below, moment as moment_value, numbers};
+use crate::text::{Printed, bound_moment, moment};
+use crate::texts::Text;
+use json::Writer;
+use std::alloc::AllocError;
+
+/// A moment after 0, if this is one.
+fn late(time: u64) -> Option<u64>
+    ensures { result ≡ late time }
+{
+    if time == 0 { None } else { Some(time) }
+}
+
+// ---- text
+
+fn found_between(out: &mut Text, low: u64, high: u64) -> Result<(), AllocError>
+    ensures { OnOk result (out.new ≡ out.old ++ found_text (FoundAs.Between low high)) }
+{
+    out.number_behind(b"between ", low)?;
+    out.number_behind(b" ", high)
+}
+
+fn found(out: &mut Text, found: Found) -> Result<(), AllocError>
+    ensures { OnOk result (out.new ≡ out.old ++ found_text found) }
+{
+    match found {
+        Found::Exact(time) => out.number_behind(b"exact ", time),
+        Found::Between { low, high } => found_between(out, low, high),
+        Found::AtMost(high) => out.number_behind(b"between none ", high),
+        Found::NoPair => out.push(b"none"),
+    }
+}
+
+fn edges(out: &mut Text, edges: Option<u64>) -> Result<(), AllocError>
+    ensures { OnOk result (out.new ≡ out.old ++ edges_text edges) }
+{
+    out.push(b" edges ")?;
+    bound_moment(out, edges)
+}
+
+fn column_between(out: &mut Text, low: u64, high: u64) -> Result<(), AllocError>
+    ensures { OnOk result (out.new ≡ out.old ++ column_text (FoundAs.Between low high)) }
+{
+    out.number(low)?;
+    out.number_behind(b"..", high)
+}
+
+fn column(out: &mut Text, found: Found) -> Result<(), AllocError>
+    ensures { OnOk result (out.new ≡ out.old ++ column_text found) }
+{
+    match found {
+        Found::Exact(time) => moment(out, late(time)),
+        Found::Between { low, high } => column_between(out, low, high),
+        Found::AtMost(high) => out.number_behind(b"none..", high),
+        Found::NoPair => out.push(b"none"),
+    }
+}
+
+fn changed(out: &mut Text, changes: &Changes) -> Result<(), AllocError>
+    ensures { OnOk result (out.new ≡ out.old ++ changes_text (Some changes.now)) }
+{
+    out.push(b" rise ")?;
+    column(out, changes.rise)?;
+    out.push(b" fall ")?;
+    column(out, changes.fall)?;
+    out.push(b" glitch ")?;
+    column(out, changes.glitch)
+}
+
+fn changes(out: &mut Text, changes: &Option<Changes>) -> Result<(), AllocError>
+    ensures { OnOk result (out.new ≡ out.old ++ changes_text changes.now) }
+{
+    match changes {
+        None => Ok(()),
+        Some(changes) => changed(out, changes),
+    }
+}
+
+impl Printed for Row {
+    ghost text = { row_line };
+
+    fn print(&self, out: &mut Text) -> Result<(), AllocError> {
+        out.word_between(b"each ", self.output.text(), b" ")?;
+        found(out, self.found)?;
+        edges(out, self.edges)?;
+        changes(out, &self.changes)?;
+        out.push(b"\n")
+    }
+}
+
+// ---- JSON
+
+fn column_of(writer: &mut Writer, found: Found) -> Result<(), AllocError>
+    ensures { OnOk result (Adds writer.old writer.new (json_tokens (column_value found))) }
+{
+    match found {
+        Found::Exact(time) => moment_value(writer, late(time)),
+        Found::Between { low, high } => numbers(writer, low, high),
+        Found::AtMost(high) => below(writer, high),
+        Found::NoPair => writer.string("none"),
+    }
+}
+
+fn changed_of(writer: &mut Writer, changes: &Changes) -> Result<(), AllocError>
+    ensures { OnOk result (Adds writer.old writer.new (items_tokens (changes_value (Some changes.now)))) }
+{
+    writer.string("rise")?;
+    column_of(writer, changes.rise)?;
+    writer.string("fall")?;
+    column_of(writer, changes.fall)?;
+    writer.string("glitch")?;
+    column_of(writer, changes.glitch)?;
+    writer.end_array()
+}
+
+/// What is found by the levels, where that is asked for, and the end of the array.
+fn changes_of(writer: &mut Writer, changes: &Option<Changes>) -> Result<(), AllocError>
+    ensures { OnOk result (Adds writer.old writer.new (items_tokens (changes_value changes.now))) }
+{
+    match changes {
+        None => writer.end_array(),
+        Some(changes) => changed_of(writer, changes),
+    }
+}
+
+/// The bound by edges, and what follows it.
+fn edges_of(writer: &mut Writer, row: &Row) -> Result<(), AllocError>
+    ensures { OnOk result (Adds writer.old writer.new (items_tokens (edges_value row.now))) }
+{
+    writer.string("edges")?;
+    moment_value(writer, row.edges)?;
+    changes_of(writer, &row.changes)
+}
+
+fn exact(writer: &mut Writer, time: u64, row: &Row) -> Result<(), AllocError>
+    ensures { OnOk result (Adds writer.old writer.new (items_tokens (found_value (FoundAs.Exact time) row.now))) }
+{
+    writer.string("exact")?;
+    writer.u64(time)?;
+    edges_of(writer, row)
+}
+
+fn within(writer: &mut Writer, low: u64, high: u64, row: &Row) -> Result<(), AllocError>
+    ensures { OnOk result (Adds writer.old writer.new (items_tokens (found_value (FoundAs.Between low high) row.now))) }
+{
+    writer.string("between")?;
+    writer.u64(low)?;
+    writer.u64(high)?;
+    edges_of(writer, row)
+}
+
+fn up_to(writer: &mut Writer, high: u64, row: &Row) -> Result<(), AllocError>
+    ensures { OnOk result (Adds writer.old writer.new (items_tokens (found_value (FoundAs.AtMost high) row.now))) }
+{
+    writer.string("between")?;
+    writer.null()?;
+    writer.u64(high)?;
+    edges_of(writer, row)
+}
+
+fn without_pair(writer: &mut Writer, row: &Row) -> Result<(), AllocError>
+    ensures { OnOk result (Adds writer.old writer.new (items_tokens (found_value FoundAs.NoPair row.now))) }
+{
+    writer.string("none")?;
+    edges_of(writer, row)
+}
+
+/// What is found of an output, and the end of the array.
+fn found_of(writer: &mut Writer, row: &Row) -> Result<(), AllocError>
+    ensures { OnOk result (Adds writer.old writer.new (items_tokens (found_value row.now.found row.now))) }
+{
+    match row.found {
+        Found::Exact(time) => exact(writer, time, row),
+        Found::Between { low, high } => within(writer, low, high, row),
+        Found::AtMost(high) => up_to(writer, high, row),
+        Found::NoPair => without_pair(writer, row),
+    }
+}
+
+impl Valued for Row {
+    ghost value = { row_value };
+
+    fn value(&self, writer: &mut Writer) -> Result<(), AllocError> {
+        writer.begin_array()?;
+        writer.string(self.output.text())?;
+        found_of(writer, self)
+    }
+}
