@@ -14,6 +14,8 @@ The tables:
 - `collection`: how many netlists of a folder are exact, by the strategy `auto` or `--strategies`.
 - `promises`, `changes`, `hazards`: questions with conditions, the latest rise, fall and glitch of
   each output, and whether it can glitch.
+- `required`: required times, at the worst delay, beside it, and where a figure stays open.
+- `certificates`: the certificate of each netlist of a folder after five seconds, whatever is open.
 - `hostile`: certificates that are as long, wide or wrong as a text allows, and what `check` takes.
 - `first`: the first command in a fresh clone of what is committed, which compiles, and later ones.
 
@@ -37,7 +39,7 @@ import re
 import sys
 import time
 
-from lib import costs, hostile, places, promised, running, searches
+from lib import costs, hostile, places, promised, running, searches, standings
 from lib.table import Table, folded
 
 sys.path.append(os.path.join(places.TOP, "build"))
@@ -53,13 +55,17 @@ TABLES = {
     "promises": promised.promises,
     "changes": promised.changes,
     "hazards": promised.hazards,
+    "required": standings.required,
+    "certificates": standings.certificates,
     "hostile": hostile.hostile,
     "first": costs.first,
 }
 # The page has no place for these: those asked for before and after a change, and of conditions.
-UNPLACED = {"speed", "workers", "promises", "changes", "hazards"}
+UNPLACED = {
+    "speed", "workers", "promises", "changes", "hazards", "required", "certificates"
+}  # fmt: skip
 # Those of which each figure is of one run, and those that have instructions where they are asked.
-ONCE = {"strategies", "collection", "promises", "changes", "hazards", "hostile"}
+ONCE = UNPLACED - {"speed", "workers"} | {"strategies", "collection", "hostile"}
 COUNTED = {"commands", "speed"}
 
 
@@ -115,8 +121,8 @@ def call():
         words.error("--runs, --seconds and --jobs: 1 at least")
     if len(asked.programs) > (2 if asked.table == "speed" else 1):
         words.error("too many programs")
-    if asked.table == "collection" and not asked.netlists:
-        words.error("collection: --netlists FOLDER says which")
+    if asked.table in ("collection", "certificates") and not asked.netlists:
+        words.error(f"{asked.table}: --netlists FOLDER says which")
     if asked.instructions and asked.table not in COUNTED:
         words.error(f"--instructions: of {' and '.join(sorted(COUNTED))} alone")
     asked.programs = [os.path.abspath(it) for it in asked.programs]

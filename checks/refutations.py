@@ -6,8 +6,8 @@ Makes small random circuits and questions, with conditions (lib/conditions.py) a
 each of them certificates whose trees have leaves by spans among others (lib/refuting.py): good
 ones; ones with lines of such leaves changed, taken away, doubled or put elsewhere, with lines put
 in (lib/tampering.py), and with lesser claims, all that is late being sooner; ones with changed
-conditions; leaves of random steps; those that `worst` writes; and ones that claim that no pair is
-admitted, of questions that have none. The program has to accept the good ones. Of each certificate both have to say the same, verdict and line, or fault of
+conditions; leaves of random steps; those that `worst` writes; ones of figures that are open; and
+ones that claim that no pair is admitted, of questions that have none. The program has to accept the good ones. Of each certificate both have to say the same, verdict and line, or fault of
 the text and line. What the program takes has to be true by an event queue (lib/event_queue.py),
 which knows no spans: the time of a certificate that it accepts is the greatest delay of all
 admitted pairs, and where none is claimed, there is none; and up to the line that it refuses, each clause of a leaf holds in each run of the
@@ -22,7 +22,7 @@ import re
 import sys
 
 import opinions
-from lib import check, conditions, event_queue, places, refuting, tampering, truth
+from lib import check, conditions, event_queue, places, refuting, reports, tampering, truth
 from lib.netlists import random_netlist, wide_netlist
 
 import second_opinion as opinion
@@ -166,15 +166,16 @@ def random_leaf(rng, circuit, question, time):
     return ["x", *lines, f"q {rng.choice([*least, *least, min(bound, time)])}"]
 
 
-def head_lines(circuit, defaults, question, time, pair):
+def head_lines(circuit, defaults, question, time, pair, high=None):
     """The lines of a certificate of version 4 before its tree; the time and the pair are None where
-    none is claimed.
+    none is claimed. The moment that no pair passes is the time where it is left out.
     """
+    high = time if high is None else high
     return [
         "tdelay-cert 4",
         f"circuit {circuit.inputs} {len(circuit.gates)}",
         *opinions.question_lines(4, defaults, question),
-        *(["time none"] if pair is None else opinions.claim_lines(4, time, time, pair)),
+        *(["time none"] if pair is None else opinions.claim_lines(4, time, high, pair)),
     ]
 
 
@@ -217,9 +218,7 @@ def compare(setup, lines, origin, wanted=None):
     tested = setup.tested
     tested.write("c", certificate)
     theirs = setup.program("check", "t.v", "c")
-    ours = opinion.told(
-        lambda: opinion.check(setup.netlist, opinion.Told(), certificate)
-    )
+    ours = opinion.told(lambda: opinion.check(setup.netlist, setup.told, certificate))
     at = re.match(r"refused .* line (\d+)\n", theirs[0])
     line = int(at[1]) if at else 0
     letters, wrong = set(), None
@@ -247,7 +246,7 @@ def compare_example(tested):
     netlist = re.search(r"(?s)```\n(module .*?)```", page)[1]
     example = re.search(r"```\n(tdelay-cert 4\n[^`]*\nx\n[^`]*)```", page)[1]
     setup = opinions.Setup(tested, random.Random(0), netlist.encode())
-    setup.defaults, setup.steps = [], opinion.Delays(1, 1)
+    setup.defaults, setup.steps, setup.told = [], opinion.Delays(1, 1), opinion.Told()
     for old, new, wanted in CHANGES:
         compare(setup, example.replace(old, new, 1).encode(), "of the page", wanted)
     head = example.partition("\nkeep none\n")[0].splitlines() + ["keep 7 .1"]
@@ -280,6 +279,49 @@ def lesser(setup, question, worst, tree):
     by = rng.choice([0, worst - time])
     head = head_lines(circuit, setup.steps, question, time, pair)
     return head + tampering.sooner(rng, tree, by, time)
+
+
+def accepted_line(time, high):
+    """What is said of a certificate that is accepted."""
+    return f"accepted {time}" if time == high else f"accepted between {time} {high}"
+
+
+def compare_open(setup, question, worst, tree):
+    """Compares certificates of figures that are open, which a tree shows that is good for the worst
+    delay, and changed ones.
+    """
+    rng, circuit = setup.rng, setup.circuit
+    pair = rng.choice(pairs_of(circuit, question))
+    time = event_queue.latest_change(circuit, [pair], question.moments)
+    high = worst + rng.choice([0, 0, 1, 7])
+    head = head_lines(circuit, setup.steps, question, time, pair, high)
+    compare(setup, head + tree, "open", accepted_line(time, high))
+    for _ in range(4):
+        compare(setup, changed(rng, head, tree), "open, changed")
+    less = rng.randint(time, worst)
+    head = head_lines(circuit, setup.steps, question, time, pair, less)
+    by = rng.choice([0, worst - less])
+    compare(setup, head + tampering.sooner(rng, tree, by, less), "open, a lesser claim")
+
+
+def compare_cut_short(setup, words):
+    """Compares the certificate that `worst` writes of figures that it leaves open, and changed
+    ones.
+    """
+    rng, tested = setup.rng, setup.tested
+    ways = ["--strategy", rng.choice(["auto", "refute"]), "--budget", str(rng.randint(1, 12))]
+    tested.remove("written")
+    out, _, _ = setup.program(
+        "worst", "t.v", *opinions.options_of(words), *ways, "--cert-between", "--cert", "written"
+    )
+    written, figures = tested.read("written"), reports.figures_of(out)
+    if written is None or not figures or figures.low == figures.high:
+        return
+    compare(setup, written, "open, of a search", accepted_line(*figures[:2]))
+    lines = written.decode().splitlines()
+    head, tree = lines[:14], lines[14:]
+    for _ in range(4):
+        compare(setup, changed(rng, head, tree), "open, changed")
 
 
 def compare_written(setup, words, question, worst):
@@ -316,6 +358,7 @@ def compare_own(setup, question, worst, pair):
         less = lesser(setup, question, worst, tree)
         if less:
             compare(setup, less, "a lesser claim")
+    compare_open(setup, question, worst, tree)
 
 
 def compare_none(setup, question):
@@ -355,6 +398,7 @@ def compare_circuit(tested, rng):
         if worst:
             compare_own(setup, question, *worst)
             compare_written(setup, words, question, worst[0])
+            compare_cut_short(setup, words)
         pairs = pairs_of(circuit, question)
         keep = conditions.random_conditions(rng, circuit, pairs, question.moments)
         asked = question._replace(keep=keep)
@@ -385,6 +429,9 @@ SHARES = {
     "accepted, of a search": 0.01,
     "accepted, random steps": 0.01,
     "accepted, none": 0.02,
+    "accepted, open": 0.01,
+    "accepted, open, changed": 0.01,
+    "accepted, open, of a search": 0.001,
     "BadStep": 0.1,
     "LeafBound": 0.02,
     "LeafAboveTime": 0.002,

@@ -130,9 +130,7 @@ def workers(table):
 def collection(table):
     """How many netlists of the folder are exact, by each strategy; those that aren't by name."""
     program, asked = table.asked.programs[0], table.asked.strategies or ["auto"]
-    files = os.listdir(table.asked.netlists)
-    names = sorted(it[:-2] for it in files if it.endswith(".v") and not it.endswith(".rtl.v"))
-    names = [it for it in names if table.is_asked(it)]
+    names = table.names()
     table.head(
         "Strategy", "Netlists", "Exact, accepted", "Between", "Did not end",
         "Seconds in all, the most",

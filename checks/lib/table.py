@@ -31,6 +31,12 @@ class Table:
             self.lacking.append(name)
         return path
 
+    def names(self):
+        """The netlists of the folder that are asked for."""
+        files = os.listdir(self.asked.netlists)
+        names = sorted(it[:-2] for it in files if it.endswith(".v") and not it.endswith(".rtl.v"))
+        return [name for name in names if self.is_asked(name)]
+
     def is_asked(self, name):
         """Whether a netlist is to be measured; it has been seen then."""
         if name in self.unseen:
