@@ -6,6 +6,7 @@
 #![tactic(auto)]
 
 mod climbing;
+mod cone;
 mod delaying;
 mod draws;
 mod joining;

@@ -1,5 +1,6 @@
 //! The simulation of 64 pairs by a list of events for each net.
 
+use crate::cone::Cone;
 use crate::delaying::{Delaying, Due};
 use crate::joining::negated;
 use crate::lanes::Latest;
@@ -19,6 +20,7 @@ const EVENTS: usize = 1 << 24;
 /// Room for the waves of the nets of a circuit, and for a gate's target.
 #[derive(Debug, Drop)]
 pub struct Lists {
+    cone: Cone,
     rooms: Rooms<Waves>,
     targets: Targets,
     delaying: Delaying,
@@ -32,6 +34,7 @@ impl Lists {
     pub fn new(alloc: Global, circuit: &Circuit) -> Result<Self, AllocError> {
         let places = Places::new(alloc, circuit)?;
         Ok(Lists {
+            cone: Cone::of(alloc, circuit)?,
             rooms: Rooms::new(quiet(alloc, places.count)?, places.of_nets),
             targets: Targets::new(alloc, circuit)?,
             delaying: Delaying::new(alloc),
@@ -47,12 +50,16 @@ impl Lists {
         let first = circuit.first_gate() as usize;
         self.events = 0;
         for (place, gate) in circuit.gates().iter().enumerate() {
+            let output = first.saturating_add(place);
+            if !self.cone.has(output) {
+                continue;
+            }
             let events = events_of(&self.rooms, &gate.inputs);
             self.events = self.events.saturating_add(events);
             if self.events > EVENTS {
                 return Ok(false);
             }
-            self.evaluate(gate, first.saturating_add(place))?;
+            self.evaluate(gate, output)?;
         }
         Ok(true)
     }

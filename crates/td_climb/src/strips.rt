@@ -1,5 +1,6 @@
 //! The simulation of 64 pairs by the levels of each net at each moment of its window.
 
+use crate::cone::Cone;
 use crate::delaying::Due;
 use crate::joining::{Join, negated};
 use crate::lanes::Latest;
@@ -91,6 +92,7 @@ impl Strip {
 /// Room for the levels of the nets of a circuit, and for a gate's target.
 #[derive(Debug, Drop)]
 pub struct Strips {
+    cone: Cone,
     rooms: Rooms<Strip>,
     windows: Vec<Window>,
     target: Vec<u64>,
@@ -108,6 +110,7 @@ impl Strips {
             strips.push(Strip::new(alloc))?;
         }
         Ok(Strips {
+            cone: Cone::of(alloc, circuit)?,
             rooms: Rooms::new(strips, places.of_nets),
             windows: windows(alloc, circuit)?,
             target: Vec::new(alloc),
@@ -122,7 +125,11 @@ impl Strips {
         let first = circuit.first_gate() as usize;
         let mut words = 0usize;
         for (place, gate) in circuit.gates().iter().enumerate() {
-            if let Some(window) = self.windows.get(first.saturating_add(place)) {
+            let output = first.saturating_add(place);
+            if !self.cone.has(output) {
+                continue;
+            }
+            if let Some(window) = self.windows.get(output) {
                 words = words.saturating_add(target_words(*window, Due::of(gate)));
             }
         }
@@ -134,7 +141,10 @@ impl Strips {
         self.begin(circuit, pairs)?;
         let first = circuit.first_gate() as usize;
         for (place, gate) in circuit.gates().iter().enumerate() {
-            self.evaluate(gate, first.saturating_add(place))?;
+            let output = first.saturating_add(place);
+            if self.cone.has(output) {
+                self.evaluate(gate, output)?;
+            }
         }
         Ok(())
     }

@@ -28,14 +28,20 @@ pub struct Findings {
 // all.
 const FEW_GATES: u64 = 20_000;
 
+// How many where pairs keep conditions: most moves break one, and models are near late pairs.
+const KEPT_GATES: u64 = 100_000;
+
 // How much the search does.
-fn limits_of(known: u64, effort: Effort<'_>) -> Limits {
+fn limits_of(known: u64, keeps: bool, effort: Effort<'_>) -> Limits {
     let mut limits = Limits {
         known,
         words: effort.words,
         alone: effort.alone,
         ..Limits::of_work(effort.work)
     };
+    if keeps {
+        limits.climb = KEPT_GATES;
+    }
     if let Some(required) = effort.required {
         limits.known = known.max(required);
         limits.enough = required;
@@ -64,7 +70,7 @@ pub fn search<R: Threads + Sync>(
     let mut admitted = Admitted::new(alloc, &network, admit)?;
     admitted.conditions = conditions_in(alloc, circuit, admit, keep)?;
     let times = times_in(alloc, circuit, admit)?;
-    let limits = limits_of(known, effort);
+    let limits = limits_of(known, !keep.is_empty(), effort);
     let search = Search::new(alloc, &network, &admitted, &times, limits, effort.stop)?;
     let mut team = Team::new(search, effort.workers as usize)?;
     let ended = team.run(rt);

@@ -101,24 +101,11 @@ impl<'a> Search<'a> {
 
     /// By net whether it lies in the cone of one, or of a condition's. The error is out of memory.
     pub(crate) fn cone(&self, net: Net) -> Result<Vec<bool>, AllocError> {
-        let mut cone = vec![in self.alloc; false; self.network.nets()]?;
-        let mut last = net;
-        write_at(&mut cone, net as usize, true);
+        let mut nets = vec![in self.alloc; net; 1]?;
         for condition in &self.admitted.conditions {
-            write_at(&mut cone, condition.net as usize, true);
-            last = last.max(condition.net);
+            nets.push(condition.net)?;
         }
-        for member in (self.network.first_gate()..last.saturating_add(1)).rev() {
-            if !read(&cone, member as usize, false) {
-                continue;
-            }
-            if let Some(node) = self.network.driver(member) {
-                for fanin in self.network.fanins(node) {
-                    write_at(&mut cone, *fanin as usize, true);
-                }
-            }
-        }
-        Ok(cone)
+        self.network.nets_below(self.alloc, &nets)
     }
 
     // The assumptions of a question under the cube.

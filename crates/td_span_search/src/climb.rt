@@ -4,7 +4,7 @@ use crate::network::Net;
 use crate::pairs::{Move, PairBits};
 use crate::search::{Found, Search};
 use std::alloc::AllocError;
-use td_cdcl::small;
+use td_cdcl::{read, small};
 
 // So many times as many moves as there are inputs without a better pair, and a climb goes
 // elsewhere.
@@ -18,7 +18,7 @@ impl<'a> Search<'a> {
     /// Simulates a pair up to a net, and notes the last changes. The error is out of memory.
     pub(crate) fn simulate_up_to(&mut self, pair: &PairBits, last: Net) -> Result<(), AllocError> {
         let is_whole = self.waves.run(self.network, pair, last)?;
-        let nets = u64::from(last).saturating_mul(STEPS_OF_A_NET);
+        let nets = self.nets_up_to(last).saturating_mul(STEPS_OF_A_NET);
         let changes = (self.waves.count() as u64).saturating_mul(STEPS_OF_A_CHANGE);
         self.counts.simulated = self
             .counts
@@ -26,11 +26,21 @@ impl<'a> Search<'a> {
             .saturating_add(nets)
             .saturating_add(changes);
         if is_whole {
-            self.reach.note(&self.waves, last);
+            self.reach.note(self.network, &self.waves, last);
         } else {
             self.is_lost = true;
         }
         Ok(())
+    }
+
+    // How many nets a simulation up to a net has.
+    fn nets_up_to(&self, last: Net) -> u64 {
+        let first = self.network.first_gate();
+        let gates = match last.checked_sub(first) {
+            Some(place) => self.network.cone().partition_point(|gate| *gate <= place),
+            None => 0,
+        };
+        u64::from(first).saturating_add(gates as u64)
     }
 
     /// The delay of a pair; the best pair is kept. The error is out of memory.
@@ -59,7 +69,7 @@ impl<'a> Search<'a> {
         from: Found,
         bits: usize,
     ) -> Result<Found, AllocError> {
-        let inputs = self.network.inputs();
+        let inputs = self.moving.len();
         let patience = PATIENCE.saturating_mul(inputs as u64);
         let mut here = from;
         let mut idle = 0u64;
@@ -69,7 +79,7 @@ impl<'a> Search<'a> {
             }
             let mut pair = here.pair.copy(self.alloc)?;
             for _ in 0..self.draw(bits).saturating_add(1) {
-                let step = self.draw_move(inputs, 1);
+                let step = self.draw_move(1);
                 self.admitted.step(&mut pair, step);
             }
             idle = idle.saturating_add(1);
@@ -92,11 +102,10 @@ impl<'a> Search<'a> {
 
     // A pair with moves at all inputs; where it isn't asked about, the same one again.
     fn elsewhere(&mut self, here: Found) -> Result<Found, AllocError> {
-        let inputs = self.network.inputs();
         let mut pair = here.pair.copy(self.alloc)?;
-        for input in 0..inputs {
-            let mut step = self.draw_move(inputs, 0);
-            step.input = input;
+        for place in 0..self.moving.len() {
+            let mut step = self.draw_move(0);
+            step.input = self.moving_input(place);
             self.admitted.step(&mut pair, step);
         }
         if !self.keeps(&pair) {
@@ -106,15 +115,19 @@ impl<'a> Search<'a> {
         Ok(Found { delay, pair })
     }
 
-    // A move at some input: with `least` 1 one bit flips at least.
-    fn draw_move(&mut self, inputs: usize, least: usize) -> Move {
-        let input = self.draw(inputs);
+    // A move at some input that matters: with `least` 1 one bit flips at least.
+    fn draw_move(&mut self, least: usize) -> Move {
+        let place = self.draw(self.moving.len());
         let flips = least.saturating_add(self.draw(4usize.saturating_sub(least)));
         Move {
-            input,
+            input: self.moving_input(place),
             first: flips % 2 == 1,
             second: flips / 2 % 2 == 1,
-            other: self.draw(inputs),
+            other: self.draw(self.network.inputs()),
         }
+    }
+
+    fn moving_input(&self, place: usize) -> usize {
+        read(&self.moving, place, 0) as usize
     }
 }

@@ -36,6 +36,8 @@ pub struct Network {
     fanins: Vec<Net>,
     inputs: usize,
     outputs: Vec<Net>,
+    // The gates that lead to an output, by their places.
+    cone: Vec<u32>,
     // By net.
     is_output: Vec<bool>,
     moments: Vec<u64>,
@@ -112,14 +114,56 @@ impl Network {
         for output in circuit.outputs() {
             write_at(&mut is_output, *output as usize, true);
         }
-        Ok(Network {
+        let mut network = Network {
             nodes,
             fanins,
             inputs: circuit.input_count(),
             outputs: Vec::from_slice(alloc, circuit.outputs())?,
+            cone: Vec::new(alloc),
             is_output,
             moments: Vec::from_slice(alloc, circuit.moments())?,
-        })
+        };
+        network.cone = network.gates_below(alloc, &network.outputs)?;
+        Ok(network)
+    }
+
+    /// By net whether one of these nets depends on it. The error is out of memory.
+    pub fn nets_below(&self, alloc: Global, nets: &[Net]) -> Result<Vec<bool>, AllocError> {
+        let mut below = vec![in alloc; false; self.nets()]?;
+        let mut last = 0;
+        for net in nets {
+            write_at(&mut below, *net as usize, true);
+            last = last.max(*net);
+        }
+        for member in (self.first_gate()..last.saturating_add(1)).rev() {
+            if !read(&below, member as usize, false) {
+                continue;
+            }
+            if let Some(node) = self.driver(member) {
+                for fanin in self.fanins(node) {
+                    write_at(&mut below, *fanin as usize, true);
+                }
+            }
+        }
+        Ok(below)
+    }
+
+    // The places of the gates on which one of these nets depends, in order. The error is out of
+    // memory.
+    fn gates_below(&self, alloc: Global, nets: &[Net]) -> Result<Vec<u32>, AllocError> {
+        let below = self.nets_below(alloc, nets)?;
+        let mut gates = Vec::new(alloc);
+        for place in 0..self.nodes.len() {
+            if read(&below, self.net_of_gate(place) as usize, false) {
+                gates.push(small(place))?;
+            }
+        }
+        Ok(gates)
+    }
+
+    /// The gates that lead to an output, by their places, in topological order.
+    pub fn cone(&self) -> &[u32] {
+        &self.cone
     }
 
     /// How many inputs there are.

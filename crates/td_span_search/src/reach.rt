@@ -142,19 +142,30 @@ impl Reach {
         read(seen, net as usize, 0)
     }
 
-    /// Notes the last changes of a run, of the nets up to one.
-    pub fn note(&mut self, waves: &Waves, last: Net) {
-        for net in 2..last.saturating_add(1) {
-            let place = waves.settled_from(net);
-            let level = waves.last(net);
-            if place > self.seen(net, level) {
-                let seen = if level {
-                    &mut self.rises_seen
-                } else {
-                    &mut self.falls_seen
-                };
-                write_at(seen, net as usize, place);
+    /// Notes the last changes of a run, of the nets up to one that lead to an output.
+    pub fn note(&mut self, network: &Network, waves: &Waves, last: Net) {
+        for input in 0..network.inputs() {
+            self.note_one(waves, network.net_of_input(input));
+        }
+        for place in network.cone() {
+            let net = network.net_of_gate(*place as usize);
+            if net > last {
+                break;
             }
+            self.note_one(waves, net);
+        }
+    }
+
+    fn note_one(&mut self, waves: &Waves, net: Net) {
+        let place = waves.settled_from(net);
+        let level = waves.last(net);
+        if place > self.seen(net, level) {
+            let seen = if level {
+                &mut self.rises_seen
+            } else {
+                &mut self.falls_seen
+            };
+            write_at(seen, net as usize, place);
         }
     }
 

@@ -136,6 +136,8 @@ pub struct Search<'a> {
     pub(crate) waves: Waves,
     pub(crate) record: Record,
     pub(crate) rests: Rests,
+    // The inputs on which an output or a condition depends: the others don't matter.
+    pub(crate) moving: Vec<u32>,
     // Whether the best pair is one of those asked about: else none is known.
     pub(crate) is_ready: bool,
     pub(crate) best: Found,
@@ -160,6 +162,22 @@ pub struct Search<'a> {
     pub(crate) pause: u64,
     // Whether a run had too many changes to be followed.
     pub(crate) is_lost: bool,
+}
+
+// The inputs on which an output or a condition depends.
+fn moving(alloc: Global, network: &Network, admitted: &Admitted) -> Result<Vec<u32>, AllocError> {
+    let mut nets = Vec::from_slice(alloc, network.outputs())?;
+    for condition in &admitted.conditions {
+        nets.push(condition.net)?;
+    }
+    let below = network.nets_below(alloc, &nets)?;
+    let mut moving = Vec::new(alloc);
+    for input in 0..network.inputs() {
+        if read(&below, network.net_of_input(input) as usize, false) {
+            moving.push(small(input))?;
+        }
+    }
+    Ok(moving)
 }
 
 impl<'a> Search<'a> {
@@ -193,6 +211,7 @@ impl<'a> Search<'a> {
             waves: Waves::new(alloc),
             record: Record::new(alloc),
             rests: Rests::new(alloc),
+            moving: moving(alloc, network, admitted)?,
             is_ready: admitted.conditions.is_empty() && admitted.is_some(),
             best: Found {
                 delay: 0,

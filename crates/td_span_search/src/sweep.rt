@@ -4,18 +4,20 @@ use crate::asking::{Asked, Reply};
 use crate::network::Net;
 use crate::search::Search;
 use std::alloc::AllocError;
+use td_cdcl::read;
 
 impl<'a> Search<'a> {
     /// Sweeps on from where the last one stopped, with this work. The error is out of memory.
     pub(crate) fn sweep(&mut self, work: u64) -> Result<(), AllocError> {
-        let gates = self.network.nodes().len();
+        let network = self.network;
+        let gates = network.cone().len();
         let start = self.spent();
         for place in self.sweep.place..gates {
             self.sweep.place = place;
             if self.spent().saturating_sub(start) > work || self.is_over() {
                 break;
             }
-            let net = self.network.net_of_gate(place);
+            let net = network.net_of_gate(read(network.cone(), place, 0) as usize);
             self.redo(net)?;
             for level in [false, true] {
                 if !self.is_thin(net) && self.reach.way(net, level) > 0 {
@@ -27,8 +29,8 @@ impl<'a> Search<'a> {
                 self.sweep.limit = self.sweep.limit.saturating_mul(2);
             }
         }
-        for place in 0..gates {
-            self.redo(self.network.net_of_gate(place))?;
+        for place in network.cone() {
+            self.redo(network.net_of_gate(*place as usize))?;
         }
         Ok(())
     }

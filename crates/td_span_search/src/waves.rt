@@ -223,8 +223,8 @@ impl Waves {
         Ok(())
     }
 
-    /// The run of a pair, of the nets up to `last`. Answers whether it was followed to its end. The
-    /// error is out of memory.
+    /// The run of a pair, of the nets up to `last` that lead to an output: the others stay at 0.
+    /// Answers whether it was followed to its end. The error is out of memory.
     pub fn run(
         &mut self,
         network: &Network,
@@ -242,8 +242,11 @@ impl Waves {
             }
             self.keep(net, start);
         }
-        for (place, node) in network.nodes().iter().enumerate() {
-            let net = network.net_of_gate(place);
+        for place in network.cone() {
+            let net = network.net_of_gate(*place as usize);
+            let Some(node) = network.driver(net) else {
+                break;
+            };
             if net > last {
                 break;
             }
@@ -251,7 +254,7 @@ impl Waves {
                 return Ok(false);
             }
             let start = self.moments.len();
-            let end = self.run_gate(network, *node, net)?;
+            let end = self.run_gate(network, node, net)?;
             self.moments.truncate(end);
             self.keep(net, start);
         }
