@@ -1,6 +1,9 @@
 //! What a search found.
 
-ghost use Rattle.std.specs.Prelude.{◌≡◌, None};
+ghost use Rattle.std.specs.Prelude.{◌≡◌, None, IfSome};
+ghost use Rattle.td_circuit.specs.Settings.{Setting};
+ghost use Rattle.td_domain.specs.Admits.{Admitted};
+ghost use Rattle.td_refute.specs.Answers.{IsShown};
 ghost use Rattle.td_worst.specs.Methods.{is_answered};
 
 use td_refute::Refuted;
@@ -25,6 +28,23 @@ impl Found {
             refuted: None,
         }
     }
+}
+
+/// The steps of two searches that show the lower bound.
+pub(crate) fn lower_steps(first: Option<Refuted>, second: Option<Refuted>) -> Option<Refuted>
+    ensures { (given : Setting) (admit : Admitted) → IfSome first (IsShown given admit) → IfSome second (IsShown given admit)
+        → IfSome result (IsShown given admit) }
+{
+    let Some(one) = first else {
+        return second;
+    };
+    let Some(other) = second else {
+        return Some(one);
+    };
+    if one.bound < other.bound {
+        return Some(one);
+    }
+    Some(other)
 }
 
 /// Whether an answer says if a pair is later than a required moment, where there is one.
