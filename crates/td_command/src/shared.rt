@@ -273,9 +273,9 @@ out",
             "How the search goes. `least` and `lead` split cubes of pairs; `lead`\n\
 climbs to a first pair and bounds by edges. `refute` asks a solver how\n\
 long nets keep their levels. Certificates of `lead` and `refute` are of\n\
-version 4. `auto` is a short `least`, a short `lead`, then `refute`, then\n\
-`lead` again, until one of them\n\
-ends",
+version 4. `auto` is a short `least`, a short `refute`, then `lead` and\n\
+`refute` by turns, until one of\n\
+them ends",
         )
     }
 
