@@ -63,7 +63,7 @@ Pins, held inputs, flips, moments, default delays and conditions go along; condi
   $ tdelay worst c17.v --each --changes --hold-input N6 --at N1=4 --default-rise 3
   unit 1 ns
   defaulted 6
-  each N22 exact 8 edges 8 rise 8 fall 8 glitch 8
+  each N22 exact 8 edges 8 rise 8 fall 8 glitch 7..8
   each N23 exact 7 edges 7 rise 7 fall 5 glitch 5..7
   $ tdelay worst hazard.v --each --changes --keep s==
   unit 1 ns

@@ -9,8 +9,8 @@ The hazards of each output (`worst --hazards`): whether it can change after mome
   $ tdelay worst c17.v --hazards
   unit 1 ns
   defaulted 6
-  hazard N22 0 can 00010 01111
-  hazard N22 1 can 10111 01101
+  hazard N22 0 can 10010 01111
+  hazard N22 1 can 10110 11001
   hazard N23 0 can 00000 11111
   hazard N23 1 never
   $ tdelay worst lost_pulse.v --hazards
@@ -66,7 +66,7 @@ With one input that changes these are the hazards of fundamental mode.
   unit 1 ns
   defaulted 6
   hazard N22 0 never
-  hazard N22 1 can 11111 11011
+  hazard N22 1 can 11110 11010
   hazard N23 0 never
   hazard N23 1 never
 
@@ -150,7 +150,7 @@ As JSON, by two workers, and without outputs.
   unit 1 ns
   defaulted 6
   hazard N22 0 never
-  hazard N22 1 can 11111 11011
+  hazard N22 1 can 11110 11010
   hazard N23 0 never
   hazard N23 1 never
   $ printf "module wire_only(a); input a; endmodule" > bare.v
@@ -205,7 +205,7 @@ What doesn't go together with it: no file is read or written.
   $ tdelay worst c17.v --hazards --strategy refute
   unit 1 ns
   defaulted 6
-  hazard N22 0 can 00010 01111
-  hazard N22 1 can 10111 01101
+  hazard N22 0 can 10010 01111
+  hazard N22 1 can 10110 11001
   hazard N23 0 can 00000 11111
   hazard N23 1 never
