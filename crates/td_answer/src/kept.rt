@@ -2,7 +2,7 @@
 
 ghost use Rattle.std.specs.Prelude.{◌≡◌, ◌+◌, ◌≤◌, ◌∷◌, ◌++◌, [], ℕ, true, List, length, is_some, option_map, Some, None as Nothing, IfOk, IfErr, IfSome};
 ghost use Rattle.td_circuit.specs.Numbering.{setting};
-ghost use Rattle.td_refute.specs.Kept.{IsTimedAmong, IsShownAmong as IsShownBy};
+ghost use Rattle.td_refute.specs.Kept.{IsTimedAmong};
 ghost use Rattle.td_certificate.specs.Accepts.{are_fit};
 ghost use Rattle.td_certificate.specs.Lengths.{HaveFew};
 ghost use Rattle.td_certificate.specs.Spelling.{AreConditions, AreTerms};
@@ -11,6 +11,7 @@ ghost use Rattle.td_question.specs.Asking.{IsAsked, IsAskedKeeping, keep_quotes}
 ghost use Rattle.td_question.specs.Keeping.{AreConditions as AreConditionsOf};
 ghost use Rattle.td_source.specs.Reads.{AreOutputsOf};
 ghost use Rattle.td_worst.specs.Kept.{asking_by, certificate_with, claim_of, IsKeptAnswer};
+ghost use Rattle.td_worst.specs.Supports.{IsSupportAmong};
 ghost use Rattle.td_lines.specs.declared.line.Line.TheVariants as line;
 ghost use Rattle.td_answer.specs.Heads.{head_lines};
 ghost use Rattle.td_answer.specs.Lines.{exact_lines, between_lines, at_most_lines, whole_lines};
@@ -49,7 +50,7 @@ use td_question::Asked;
 use td_reading::Reading;
 use td_request::Search;
 use td_search::Cause;
-use td_worst::{KeptAnswer, KeptQuestion};
+use td_worst::{KeptAnswer, KeptQuestion, Support};
 
 // The outcome of an exact answer.
 fn exact(
@@ -110,7 +111,7 @@ fn between(
     requires second_fits { length known.best.pair.second ≡ length circuit.netlist.inputs }
     requires timed { IsTimedAmong (setting circuit) (asking_by admit told.keep.items) known.best }
     requires ordered { known.best.time ≤ known.high }
-    requires shown { IfSome known.refuted (IsShownBy (setting circuit) (asking_by admit told.keep.items)) }
+    requires shown { IsSupportAmong (setting circuit) (asking_by admit told.keep.items) known.support }
     ensures report { IfOk result (λ outcome. AddsLines (TellsPair search.now.shown (setting circuit) known.best.pair)
         (head_lines circuit.netlist ++ between_lines search.now.required known.best.time known.high why known.best.pair 0) outcome.report) }
     ensures certificate { IfOk result (λ outcome. IfSome outcome.certificate (IsWantedCertificate search.now (setting circuit) admit told known.best known.high)) }
@@ -227,10 +228,11 @@ fn outcome_of(
             cause,
             refuted,
         } => {
+            let support = Support::by_steps(refuted);
             let known = Open {
                 best,
                 high,
-                refuted,
+                support,
             };
             let lying = between(alloc, circuit, admit, told, known, cause, search)?;
             Ok(lying)

@@ -1,11 +1,11 @@
 //! The worst delay.
 
-ghost use Rattle.std.specs.Prelude.{◌≡◌, ◌≤◌, ◌++◌, ◌⊎◌, [], length, is_some, IfOk, IfErr, IfSome};
+ghost use Rattle.std.specs.Prelude.{◌≡◌, ◌≤◌, ◌++◌, ◌⊎◌, [], length, is_some, IfOk, IfErr};
 ghost use Rattle.td_circuit.specs.Numbering.{setting};
-ghost use Rattle.td_refute.specs.Answers.{IsShown};
 ghost use Rattle.td_search.specs.Answers.{low_of};
 ghost use Rattle.td_search.specs.Problems.{Problem, problem_by, has_delay};
 ghost use Rattle.td_worst.specs.Methods.{tree_of, high_of};
+ghost use Rattle.td_worst.specs.Supports.{IsSupport};
 ghost use Rattle.td_question.specs.Asking.{IsAsked};
 ghost use Rattle.td_answer.specs.Methods.{method_of, seconds_of};
 ghost use Rattle.td_answer.specs.Heads.{head_lines};
@@ -136,11 +136,11 @@ fn certificate_of(
     requires bare { telling.told.keep.items ≡ [] }
     requires has { has_delay (problem_by telling.strategy circuit.now admit) (pair_in found.answer) (low_of found.answer) }
     requires ordered { low_of found.answer ≤ high_of found.answer }
-    requires shown { IfSome found.refuted (IsShown (setting circuit.now) admit) }
+    requires shown { IsSupport (setting circuit.now) admit found.support }
     ensures { IfOk result (IsCertificateOf telling.told (problem_by telling.strategy circuit.now admit) search.now found.answer) }
 {
     let Telling { told, strategy } = telling;
-    let Found { answer, refuted } = found;
+    let Found { answer, support } = found;
     match answer {
         Answer::Exact { time, pair, tree } => {
             let moments = Vec::from_slice(alloc, circuit.moments())?;
@@ -165,7 +165,7 @@ fn certificate_of(
             let open = Open {
                 best,
                 high,
-                refuted,
+                support,
             };
             let kept = open_certificate(alloc, circuit, admit, told, open, search);
             Ok(kept)
@@ -189,7 +189,7 @@ fn outcome_of(
     requires second_fits { length (pair_in found.answer).second ≡ length asked.circuit.netlist.inputs }
     requires has { has_delay (problem_by strategy asked.circuit asked.admit) (pair_in found.answer) (low_of found.answer) }
     requires ordered { low_of found.answer ≤ high_of found.answer }
-    requires shown { IfSome found.refuted (IsShown (setting asked.circuit) asked.admit) }
+    requires shown { IsSupport (setting asked.circuit) asked.admit found.support }
     ensures report { IfOk result (λ outcome. AddsLines (TellsPair search.now.shown (setting asked.circuit) (pair_in found.answer))
         (head_lines asked.circuit.netlist ++ answer_lines search.now.required found.answer) outcome.report) }
     ensures certified { IfOk result (λ outcome. IsCertificateOf (told_with default asked.outputs asked.keep) (problem_by strategy asked.circuit asked.admit) search.now

@@ -4,3 +4,4 @@ pub mod OpenAnswer
 pub mod Faults
 pub mod Kept
 pub mod Known
+pub mod Supports

@@ -1,29 +1,30 @@
 //! What a search found.
 
 ghost use Rattle.std.specs.Prelude.{◌≡◌, None};
+ghost use Rattle.td_circuit.specs.Settings.{Setting};
+ghost use Rattle.td_domain.specs.Admits.{Admitted};
 ghost use Rattle.td_worst.specs.Methods.{is_answered};
+ghost use Rattle.td_worst.specs.Supports.{IsSupport, IsSupportOf};
 
-use td_refute::Refuted;
+use crate::support::{HighTree, Support};
 use td_search::Answer;
 
-/// What a search found: its answer, and, where that is open, steps that show a bound, if there are
-/// some. The bound may be above the answer's upper figure.
+/// What a search found: its answer, and, where that is open, what may show its upper figure.
 #[derive(Drop)]
 pub struct Found {
     pub answer: Answer,
-    pub refuted: Option<Refuted>,
+    pub support: Support,
 }
 
 impl Found {
-    /// An answer without steps.
-    pub(crate) fn of(answer: Answer) -> Found
+    /// An answer without steps, with a tree, if there is one.
+    pub(crate) fn of(answer: Answer, tree: Option<HighTree>) -> Found
         ensures answer { result.answer ≡ answer }
-        ensures refuted { result.refuted ≡ None }
+        ensures steps { result.support.steps ≡ None }
+        ensures support { (given : Setting) (admit : Admitted) → IsSupportOf given admit tree → IsSupport given admit result.support }
     {
-        Found {
-            answer,
-            refuted: None,
-        }
+        let support = Support { steps: None, tree };
+        Found { answer, support }
     }
 }
 

@@ -14,6 +14,7 @@ mod method;
 mod question;
 mod refuting;
 mod searching;
+mod support;
 mod timing;
 
 pub use evidence::tree_of_high;
@@ -25,4 +26,5 @@ pub use kept_timing::worst_kept;
 pub use method::Method;
 pub use question::{KeptQuestion, Question};
 pub use searching::worst_until;
+pub use support::{HighTree, Support};
 pub use timing::{TimedEffort, worst};

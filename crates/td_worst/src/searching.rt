@@ -1,21 +1,22 @@
 //! The search for the worst delay, by any means.
 
-ghost use Rattle.std.specs.Prelude.{◌≡◌, true, min, max, ◌<◌, ◌≤◌, ◌+◌, ◌/◌, ℕ, length, IfOk, IfErr, IfSome};
+ghost use Rattle.std.specs.Prelude.{◌≡◌, true, min, max, ◌<◌, ◌≤◌, ◌+◌, ◌/◌, ℕ, length, IfOk, IfErr};
 ghost use Rattle.td_circuit.specs.Numbering.{setting};
-ghost use Rattle.td_refute.specs.Answers.{IsShown};
 ghost use Rattle.td_search.specs.Answers.{IsAnswer, IsSearchFault, TimeNeedsStop};
 ghost use Rattle.td_search.specs.Problems.{problem_by};
 ghost use Rattle.td_search.specs.declared.strategy.Strategy.TheVariants as strategy;
 ghost use Rattle.td_search.specs.Written.{CanBeWritten};
 ghost use Rattle.td_worst.specs.declared.method.Method.TheVariants as by_method;
 ghost use Rattle.td_worst.specs.Methods.{problem_in, first_nodes, goes_further, high_of, is_open, IsAnswerBy, IsSoundAnswer, IsWithinEdges};
+ghost use Rattle.td_worst.specs.Supports.{IsSupport, IsSupportOf};
 
-use crate::combining::combined;
+use crate::combining::with_tree;
 use crate::edge_bound::bounded_by_edges;
 use crate::found::{Found, is_answered};
 use crate::method::Method;
 use crate::question::Question;
-use crate::refuting::refuted_further;
+use crate::refuting::{Stepped, refuted_further};
+use crate::support::{Support, Treed};
 use std::alloc::Global;
 use std::sync::Wait;
 use std::thread::Threads;
@@ -80,8 +81,8 @@ pub fn worst_until<W: Watch, R: Threads + Wait + Sync>(
     ensures text { IfOk result (λ found. CanBeWritten (problem_in question.entry) found.answer) }
     // Time is a cause only where the stop can be set.
     ensures time { IfOk result (λ found. TimeNeedsStop limits.entry.stop.now.can_be_set found.answer) }
-    // The steps show their bound.
-    ensures shown { IfOk result (λ found. IfSome found.refuted (IsShown (setting question.entry.circuit.now) question.entry.admit.now)) }
+    // The steps show their bound, and the tree its moment.
+    ensures shown { IfOk result (λ found. IsSupport (setting question.entry.circuit.now) question.entry.admit.now found.support) }
     ensures fault { IfErr result (IsSearchFault (problem_in question.entry)) }
     // All progress that the watch got is true of what is asked.
     ensures reported { W.reported (problem_in question.entry) watch.old watch.new }
@@ -99,8 +100,9 @@ pub fn worst_until<W: Watch, R: Threads + Wait + Sync>(
                 admit,
                 strategy: method.strategy(),
             };
-            let answer = search(rt, alloc, &problem, &Own, limits, watch)?;
-            Ok(Found::of(answer))
+            let ended = search(rt, alloc, &problem, &Own, limits, watch)?;
+            let Treed { answer, tree } = Treed::of(ended);
+            Ok(Found::of(answer, tree))
         }
         Method::Refute => by_refutation(rt, alloc, question, limits, watch),
         Method::Auto => by_all(rt, alloc, question, limits, watch),
@@ -120,7 +122,7 @@ fn by_refutation<W: Watch, R: Threads + Wait + Sync>(
     ensures edges { 0 < limits.entry.effort.budget → IfOk result (λ found. IsWithinEdges (problem_by strategy.Lead question.entry.circuit.now question.entry.admit.now) found.answer) }
     ensures text { IfOk result (λ found. CanBeWritten (problem_by strategy.Lead question.entry.circuit.now question.entry.admit.now) found.answer) }
     ensures time { IfOk result (λ found. TimeNeedsStop limits.entry.stop.now.can_be_set found.answer) }
-    ensures shown { IfOk result (λ found. IfSome found.refuted (IsShown (setting question.entry.circuit.now) question.entry.admit.now)) }
+    ensures shown { IfOk result (λ found. IsSupport (setting question.entry.circuit.now) question.entry.admit.now found.support) }
     ensures fault { IfErr result (IsSearchFault (problem_by strategy.Lead question.entry.circuit.now question.entry.admit.now)) }
     ensures reported { W.reported (problem_by strategy.Lead question.entry.circuit.now question.entry.admit.now) watch.old watch.new }
 {
@@ -133,9 +135,13 @@ fn by_refutation<W: Watch, R: Threads + Wait + Sync>(
     let Limits { effort, .. } = limits;
     let budget = effort.budget;
     let none = with_nodes(limits, 0);
-    let known = bounded(rt, alloc, circuit, admit, none, watch)?;
+    let found = bounded(rt, alloc, circuit, admit, none, watch)?;
+    let Treed {
+        answer: known,
+        tree,
+    } = found;
     if budget == 0 {
-        return Ok(Found::of(known));
+        return Ok(Found::of(known, tree));
     }
     let problem = Problem {
         circuit,
@@ -144,10 +150,16 @@ fn by_refutation<W: Watch, R: Threads + Wait + Sync>(
     };
     let known = bounded_by_edges(alloc, &problem, known, budget);
     if !is_open(&known) || is_answered(required, &known) {
-        return Ok(Found::of(known));
+        return Ok(Found::of(known, tree));
     }
     let further = with_work(limits, budget, required);
-    Ok(refuted_further(rt, alloc, &problem, known, budget, further))
+    let shown = refuted_further(rt, alloc, &problem, known, budget, further);
+    let Stepped { answer, refuted } = shown;
+    let support = Support {
+        steps: refuted,
+        tree,
+    };
+    Ok(Found { answer, support })
 }
 
 // What a tree by `Least` comes to, which climbs to no pair.
@@ -158,11 +170,12 @@ fn bounded<W: Watch, R: Threads + Wait + Sync>(
     admit: &Admit,
     limits: Limits<'_>,
     watch: &mut W,
-) -> Result<Answer, SearchFault>
+) -> Result<Treed, SearchFault>
     requires held { length admit.now.held ≡ length circuit.now.netlist.inputs }
-    ensures answer { IfOk result (λ found. (budget : ℕ) → limits.entry.effort.budget ≤ budget → IsSoundAnswer (problem_by strategy.Lead circuit.now admit.now) budget found) }
-    ensures text { IfOk result (CanBeWritten (problem_by strategy.Lead circuit.now admit.now)) }
-    ensures time { IfOk result (TimeNeedsStop limits.entry.stop.now.can_be_set) }
+    ensures answer { IfOk result (λ found. (budget : ℕ) → limits.entry.effort.budget ≤ budget → IsSoundAnswer (problem_by strategy.Lead circuit.now admit.now) budget found.answer) }
+    ensures text { IfOk result (λ found. CanBeWritten (problem_by strategy.Lead circuit.now admit.now) found.answer) }
+    ensures time { IfOk result (λ found. TimeNeedsStop limits.entry.stop.now.can_be_set found.answer) }
+    ensures shown { IfOk result (λ found. IsSupportOf (setting circuit.now) admit.now found.tree) }
     ensures fault { IfErr result (IsSearchFault (problem_by strategy.Lead circuit.now admit.now)) }
     ensures reported { W.reported (problem_by strategy.Lead circuit.now admit.now) watch.old watch.new }
 {
@@ -172,7 +185,7 @@ fn bounded<W: Watch, R: Threads + Wait + Sync>(
         strategy: Strategy::Least,
     };
     let found = search(rt, alloc, &problem, &Own, limits, watch)?;
-    Ok(found)
+    Ok(Treed::of(found))
 }
 
 // Searches a tree by `Least`, then one by `Lead`, then for a refutation, and then a larger tree by
@@ -192,7 +205,7 @@ fn by_all<W: Watch, R: Threads + Wait + Sync>(
         → IfOk result (λ found. IsWithinEdges (problem_by strategy.Least question.entry.circuit.now question.entry.admit.now) found.answer) }
     ensures text { IfOk result (λ found. CanBeWritten (problem_by strategy.Least question.entry.circuit.now question.entry.admit.now) found.answer) }
     ensures time { IfOk result (λ found. TimeNeedsStop limits.entry.stop.now.can_be_set found.answer) }
-    ensures shown { IfOk result (λ found. IfSome found.refuted (IsShown (setting question.entry.circuit.now) question.entry.admit.now)) }
+    ensures shown { IfOk result (λ found. IsSupport (setting question.entry.circuit.now) question.entry.admit.now found.support) }
     ensures fault { IfErr result (IsSearchFault (problem_by strategy.Least question.entry.circuit.now question.entry.admit.now)) }
     ensures reported { W.reported (problem_by strategy.Least question.entry.circuit.now question.entry.admit.now) watch.old watch.new }
 {
@@ -211,32 +224,51 @@ fn by_all<W: Watch, R: Threads + Wait + Sync>(
     let budget = effort.budget;
     let nodes = nodes_of(circuit, FIRST, budget);
     let first = with_nodes(limits, nodes);
-    let known = search(rt, alloc, &problem, &Own, first, watch)?;
+    let found = search(rt, alloc, &problem, &Own, first, watch)?;
+    let Treed {
+        answer: known,
+        tree,
+    } = Treed::of(found);
     let left = budget - nodes;
     if left == 0 {
-        return Ok(Found::of(known));
+        return Ok(Found::of(known, tree));
     }
     let known = bounded_by_edges(alloc, &problem, known, nodes);
     if !is_open(&known) || is_answered(required, &known) {
-        return Ok(Found::of(known));
+        return Ok(Found::of(known, tree));
     }
+    let known = Treed {
+        answer: known,
+        tree,
+    };
     let more = nodes_of(circuit, SECOND, left / 2);
     let most = nodes_of(circuit, LAST, (left - more) / 2);
     let second = with_nodes(limits, more);
     let led = led_further(rt, alloc, circuit, admit, known, second, watch);
+    let Treed { answer: led, tree } = led;
     if is_answered(required, &led) {
-        return Ok(Found::of(led));
+        return Ok(Found::of(led, tree));
     }
     let work = left - more - most;
     let further = with_work(limits, work, required);
     let shown = refuted_further(rt, alloc, &problem, led, nodes + more, further);
-    if is_exact(&shown.answer) || is_answered(required, &shown.answer) {
-        return Ok(shown);
+    let Stepped { answer, refuted } = shown;
+    if is_exact(&answer) || is_answered(required, &answer) {
+        let support = Support {
+            steps: refuted,
+            tree,
+        };
+        return Ok(Found { answer, support });
     }
-    let Found { answer, refuted } = shown;
     let last = with_nodes(limits, most);
-    let answer = led_further(rt, alloc, circuit, admit, answer, last, watch);
-    Ok(Found { answer, refuted })
+    let known = Treed { answer, tree };
+    let led = led_further(rt, alloc, circuit, admit, known, last, watch);
+    let Treed { answer, tree } = led;
+    let support = Support {
+        steps: refuted,
+        tree,
+    };
+    Ok(Found { answer, support })
 }
 
 // The same limits with fewer nodes.
@@ -301,17 +333,18 @@ fn led_further<W: Watch, R: Threads + Wait + Sync>(
     alloc: Global,
     circuit: &Circuit,
     admit: &Admit,
-    known: Answer,
+    known: Treed,
     limits: Limits<'_>,
     watch: &mut W,
-) -> Answer
+) -> Treed
     requires held { length admit.now.held ≡ length circuit.now.netlist.inputs }
-    ensures answer { (budget : ℕ) → IsSoundAnswer (problem_by strategy.Least circuit.now admit.now) budget known
-        → CanBeWritten (problem_by strategy.Least circuit.now admit.now) known
-        → IsSoundAnswer (problem_by strategy.Least circuit.now admit.now) (budget + limits.entry.effort.budget) result
-        × CanBeWritten (problem_by strategy.Least circuit.now admit.now) result }
-    ensures high { (budget : ℕ) → IsSoundAnswer (problem_by strategy.Least circuit.now admit.now) budget known → high_of result ≤ high_of known }
-    ensures time { TimeNeedsStop limits.entry.stop.now.can_be_set known → TimeNeedsStop limits.entry.stop.now.can_be_set result }
+    ensures answer { (budget : ℕ) → IsSoundAnswer (problem_by strategy.Least circuit.now admit.now) budget known.answer
+        → CanBeWritten (problem_by strategy.Least circuit.now admit.now) known.answer
+        → IsSoundAnswer (problem_by strategy.Least circuit.now admit.now) (budget + limits.entry.effort.budget) result.answer
+        × CanBeWritten (problem_by strategy.Least circuit.now admit.now) result.answer }
+    ensures high { (budget : ℕ) → IsSoundAnswer (problem_by strategy.Least circuit.now admit.now) budget known.answer → high_of result.answer ≤ high_of known.answer }
+    ensures time { TimeNeedsStop limits.entry.stop.now.can_be_set known.answer → TimeNeedsStop limits.entry.stop.now.can_be_set result.answer }
+    ensures shown { IsSupportOf (setting circuit.now) admit.now known.tree → IsSupportOf (setting circuit.now) admit.now result.tree }
     ensures reported { W.reported (problem_by strategy.Least circuit.now admit.now) watch.old watch.new }
 {
     if limits.effort.budget == 0 {
@@ -323,7 +356,7 @@ fn led_further<W: Watch, R: Threads + Wait + Sync>(
         strategy: Strategy::Lead,
     };
     match search(rt, alloc, &problem, &Own, limits, watch) {
-        Ok(found) => combined(known, found),
+        Ok(found) => with_tree(known, Treed::of(found)),
         Err(_) => known,
     }
 }

@@ -1,8 +1,7 @@
 //! The search for the worst delay within a time.
 
-ghost use Rattle.std.specs.Prelude.{◌≡◌, ◌≤◌, true, length, is_some, IfOk, IfErr, IfSome};
+ghost use Rattle.std.specs.Prelude.{◌≡◌, ◌≤◌, true, length, is_some, IfOk, IfErr};
 ghost use Rattle.td_circuit.specs.Numbering.{setting};
-ghost use Rattle.td_refute.specs.Answers.{IsShown};
 ghost use Rattle.td_search.specs.declared.strategy.Strategy.TheVariants as strategy;
 ghost use Rattle.td_search.specs.Answers.{IsAnswer, TimeNeedsStop};
 ghost use Rattle.td_search.specs.Problems.{problem_by};
@@ -10,6 +9,7 @@ ghost use Rattle.td_search.specs.Written.{CanBeWritten};
 ghost use Rattle.td_worst.specs.declared.method.Method.TheVariants as by_method;
 ghost use Rattle.td_worst.specs.Methods.{problem_in, first_nodes, goes_further, IsAnswerBy, IsWithinEdges};
 ghost use Rattle.td_worst.specs.Faults.{IsWorstFault};
+ghost use Rattle.td_worst.specs.Supports.{IsSupport};
 
 use crate::fault::WorstFault;
 use crate::found::Found;
@@ -64,8 +64,8 @@ pub fn worst<W: Watch, R: Threads + Wait + Clock + Sync>(
     ensures text { IfOk result (λ found. CanBeWritten (problem_in question.entry) found.answer) }
     // Time is a cause only where seconds are given.
     ensures time { IfOk result (λ found. TimeNeedsStop (is_some effort.seconds) found.answer) }
-    // The steps show their bound.
-    ensures shown { IfOk result (λ found. IfSome found.refuted (IsShown (setting question.entry.circuit.now) question.entry.admit.now)) }
+    // The steps show their bound, and the tree its moment.
+    ensures shown { IfOk result (λ found. IsSupport (setting question.entry.circuit.now) question.entry.admit.now found.support) }
     ensures fault { IfErr result (IsWorstFault (is_some effort.seconds) (problem_in question.entry)) }
     // All progress that the watch got is true of what is asked.
     ensures reported { W.reported (problem_in question.entry) watch.old watch.new }
@@ -115,7 +115,7 @@ fn worst_within<W: Watch, R: Threads + Wait + Clock + Sync>(
     ensures edges { goes_further question.entry.method (length question.entry.circuit.now.netlist.gates) timed.entry.limits.effort.budget ≡ true
         → IfOk result.0 (λ found. IsWithinEdges (problem_in question.entry) found.answer) }
     ensures text { IfOk result.0 (λ found. CanBeWritten (problem_in question.entry) found.answer) }
-    ensures shown { IfOk result.0 (λ found. IfSome found.refuted (IsShown (setting question.entry.circuit.now) question.entry.admit.now)) }
+    ensures shown { IfOk result.0 (λ found. IsSupport (setting question.entry.circuit.now) question.entry.admit.now found.support) }
     ensures fault { IfErr result.0 (IsWorstFault true (problem_in question.entry)) }
     ensures reported { W.reported (problem_in question.entry) watch result.1 }
 {
@@ -136,7 +136,7 @@ fn worst_within<W: Watch, R: Threads + Wait + Clock + Sync>(
             ensures edges { goes_further question.entry.method (length question.entry.circuit.now.netlist.gates) limits.entry.effort.budget ≡ true
                 → IfOk result.0 (λ found. IsWithinEdges (problem_in question.entry) found.answer) }
             ensures text { IfOk result.0 (λ found. CanBeWritten (problem_in question.entry) found.answer) }
-            ensures shown { IfOk result.0 (λ found. IfSome found.refuted (IsShown (setting question.entry.circuit.now) question.entry.admit.now)) }
+            ensures shown { IfOk result.0 (λ found. IsSupport (setting question.entry.circuit.now) question.entry.admit.now found.support) }
             ensures fault { IfErr result.0 (IsWorstFault true (problem_in question.entry)) }
             ensures reported { W.reported (problem_in question.entry) watch result.1 }
         {

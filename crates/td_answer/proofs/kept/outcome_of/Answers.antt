@@ -1,5 +1,6 @@
 use Rattle.std.specs.Prelude.{is_some, false, None}
 use Rattle.td_circuit.specs.Numbering.{setting}
+use Rattle.td_worst.specs.Kept.{asking_by}
 use Rattle.td_answer.specs.Runs.{RunsPair}
 use Rattle.td_answer.proofs.KeptOnes.{best_fits, exact_says, between_says, at_most_says, none_says, exact_kept, none_kept, between_kept, open_kept, certificate_written, open_written}
 use Rattle.td_answer.proofs.Writable.{certificate_and_dump, spelled_and_dump}
@@ -23,7 +24,7 @@ between-requires c =
       second_fits = fits.1;
       timed = is.0.timed;
       ordered = is.0.ordered;
-      shown = is.1;
+      shown = c.by_steps-support.ensures.among (setting c.args.circuit) (asking_by c.args.admit c.args.told.keep.items) is.1;
     }
 
 pub returns-in_ok-closed-in-Exact-clause-says : goal.returns-in_ok-closed-in-Exact-clause-says
