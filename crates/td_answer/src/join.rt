@@ -59,7 +59,6 @@ fn named<'w>(fault: JoinFault<usize>, names: &[&'w str]) -> JoinFault<&'w str>
         JoinFault::OtherTerms(this, that) => {
             JoinFault::OtherTerms(name_at(names, this), name_at(names, that))
         }
-        JoinFault::Open(this) => JoinFault::Open(name_at(names, this)),
         JoinFault::Outside(this) => JoinFault::Outside(name_at(names, this)),
         JoinFault::Overlap(this, that) => {
             JoinFault::Overlap(name_at(names, this), name_at(names, that))

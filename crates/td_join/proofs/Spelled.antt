@@ -226,8 +226,15 @@ told_claim late high whole count others inputs (Some mine) (Some yours) (Some cl
     record {
       time = omega (arith, reached, may.time);
       high = is_high whole claim.time claim.high
-          (λ other. omega (arith, reached, bounded, few, least,
-          one_high late mine.time mine.high (λ e. other (lates e)) may.high, one_high high yours.time yours.high (λ e. other (highs e)) can.high))
+          (λ other. omega (
+            arith,
+            reached,
+            bounded,
+            few,
+            least,
+            one_high late mine.time mine.high (λ e. other (lates e)) may.high,
+            one_high high yours.time yours.high (λ e. other (highs e)) can.high,
+          ))
           (omega (arith, bounded, few_high high yours.time yours.high can.time can.high));
       first = ap (λ (p : Pair). length p.first) (sym shown) ∙ may.first ∙ same;
       second = ap (λ (p : Pair). length p.second) (sym shown) ∙ may.second ∙ same;

@@ -40,9 +40,9 @@ module _ (moment : Certificate → Option ℕ) where
 pub same_time : SameTime
 same_time these those pins others this that moved one other = (
   same_greatest (λ c. time_of c.claim) these those one.claim.reached.certificate other.claim.reached.certificate (time_of this.claim) (time_of that.claim) moved
-  one.claim.reached.among other.claim.reached.among one.claim.reached.time_is other.claim.reached.time_is one.claim.greatest other.claim.greatest,
+      one.claim.reached.among other.claim.reached.among one.claim.reached.time_is other.claim.reached.time_is one.claim.greatest other.claim.greatest,
   same_greatest (λ c. high_of c.claim) these those one.claim.bounded.certificate other.claim.bounded.certificate (high_of this.claim) (high_of that.claim) moved
-  one.claim.bounded.among other.claim.bounded.among one.claim.bounded.high_is other.claim.bounded.high_is one.claim.highest other.claim.highest,
+      one.claim.bounded.among other.claim.bounded.among one.claim.bounded.high_is other.claim.bounded.high_is one.claim.highest other.claim.highest,
 )
 
 -- what holds of the certificates before a place and of the one there holds of those up to it
@@ -107,8 +107,8 @@ whole_claim certificates late high at on claim stands lies greatest highest is =
     let there = slice_get-Contains certificates on high lies in
     let time = raised_time late.claim high.claim in
     let top = raised_high late.claim high.claim
-        (All-contains (λ c. IsNotAbove (time_of c.claim) (time_of late.claim)) certificates high greatest there)
-        (All-contains (λ c. IsNotAbove (high_of c.claim) (high_of high.claim)) certificates late highest here) in
+    (All-contains (λ c. IsNotAbove (time_of c.claim) (time_of late.claim)) certificates high greatest there)
+    (All-contains (λ c. IsNotAbove (high_of c.claim) (high_of high.claim)) certificates late highest here) in
     subst (λ (it : Option Claim). IsWholeClaim certificates it) (sym is) (record {
       greatest = subst (λ (x : Option ℕ). All (λ c. IsNotAbove (time_of c.claim) x) certificates) (sym time) greatest;
       reached = record { certificate = late; among = here; time_is = sym time; pair_is = sym (raised_pair late.claim high.claim) };
