@@ -83,13 +83,11 @@ module _ (moment : Certificate → Option ℕ) where
 
 pub raised_time : (late high : Option Claim) → time_of (raised late high) ≡ time_of late
 raised_time None high = refl
-raised_time (Some late) None = refl
-raised_time (Some late) (Some high) = refl
+raised_time (Some late) high = refl
 
 pub raised_pair : (late high : Option Claim) → pair_of (raised late high) ≡ pair_of late
 raised_pair None high = refl
-raised_pair (Some late) None = refl
-raised_pair (Some late) (Some high) = refl
+raised_pair (Some late) high = refl
 
 -- where there are both, or neither
 pub raised_high : (late high : Option Claim) → IsNotAbove (time_of high) (time_of late) → IsNotAbove (high_of late) (high_of high)

@@ -4,7 +4,7 @@ ghost use Rattle.std.specs.Prelude.{◌≡◌, ◌<◌, true, false, IfOk, All, 
 ghost use Rattle.td_certificate.specs.declared.certificate.Certificate.{Certificate as Reported};
 ghost use Rattle.td_certificate.specs.Accepts.{high_of};
 ghost use Rattle.td_join.specs.Joining.{time_of, IsNotAbove, IsWholeClaim};
-ghost use Rattle.td_join.specs.Claims.{raised};
+ghost use Rattle.td_join.specs.Claims.{high_or, raised};
 
 use std::alloc::{AllocError, Global};
 use td_certificate::{Certificate, Claim};
@@ -89,6 +89,16 @@ fn highest(certificates: &[Certificate]) -> usize
     greatest
 }
 
+/// The high of a claim, or this where there is none.
+fn high_or(high: u64, other: &Option<Claim>) -> u64
+    ensures { result ≡ high_or high other.now }
+{
+    match other {
+        None => high,
+        Some(other) => other.high,
+    }
+}
+
 /// The claim with the high of the other one. The error is out of memory.
 fn raised(
     alloc: Global,
@@ -100,10 +110,7 @@ fn raised(
     match claim {
         None => Ok(None),
         Some(claim) => {
-            let high = match other {
-                None => claim.high,
-                Some(other) => other.high,
-            };
+            let high = high_or(claim.high, other);
             Ok(Some(Claim {
                 time: claim.time,
                 high,
@@ -121,5 +128,6 @@ pub fn claim_of(alloc: Global, certificates: &[Certificate]) -> Result<Option<Cl
 {
     let late = &certificates[latest(certificates)];
     let high = &certificates[highest(certificates)];
-    raised(alloc, &late.claim, &high.claim)
+    let claim = raised(alloc, &late.claim, &high.claim)?;
+    Ok(claim)
 }

@@ -8,4 +8,4 @@ returns c =
     let late = slice_get_read c.args.certificates.now (length c.args.certificates.now) c.latest.result c.index-late.result.now refl c.latest.ensures.within c.index-late.ensures in
     let high = slice_get_read c.args.certificates.now (length c.args.certificates.now) c.highest.result c.index-high.result.now refl c.highest.ensures.within c.index-high.ensures in
     whole_claim c.args.certificates.now c.index-late.result.now c.index-high.result.now c.latest.result c.highest.result _ late high
-    (c.latest.ensures.greatest c.index-late.result.now late) (c.highest.ensures.greatest c.index-high.result.now high) ?
+    (c.latest.ensures.greatest c.index-late.result.now late) (c.highest.ensures.greatest c.index-high.result.now high) c.in_ok-claim.ensures
