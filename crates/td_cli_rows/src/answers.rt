@@ -73,7 +73,7 @@ const FALLS: [Taken<'static>; 2] = [
 ];
 
 /// The question about pairs that keep this, with at most so many flips.
-fn flipped(named: &'static [Taken<'static>], flips: u64) -> Question<'static> {
+pub fn flipped(named: &'static [Taken<'static>], flips: u64) -> Question<'static> {
     let Inputs { given, .. } = pinned(None);
     Question {
         inputs: Inputs { given, named },
@@ -222,7 +222,7 @@ fn joined(
 }
 
 /// The same, by a required moment.
-fn joined_by(
+pub fn joined_by(
     alloc: Global,
     names: &[&'static str],
     check: bool,
