@@ -124,7 +124,7 @@ def wrong_open(asked, lines):
         asked.tested.remove(f"o{place}")
         words = ["--budget", str(asked.tested.random.choice([0, 2, 1000])), "--cert-between"]
         done = asked.run("worst", "t.v", *line, *words, "--cert", f"o{place}")
-        if not os.path.exists(os.path.join(asked.tested.folder, f"o{place}")):
+        if asked.tested.read(f"o{place}") is None:
             return None
         names.append(f"o{place}")
         found.append(reports.figures_of(done.out))

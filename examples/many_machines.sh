@@ -2,7 +2,7 @@
 # many_machines.sh FILE PARTS OUT [OPTION VALUE]..: cuts the search of FILE into PARTS parts,
 # searches them side by side, and joins their certificates into OUT. The options are those of
 # `worst` that have a value, but for --cert and --vcd, as `--flips 2` or `--flips=2`, and
-# --cert-between.
+# --cert-between, which --required brings with it.
 #
 # Uses GNU parallel where it is there, else xargs -P, with as many jobs as JOBS says, or as there
 # are processors. TDELAY is the program (./tdelay where left out). Prints what `join` prints, which
@@ -21,9 +21,9 @@ trap 'rm -rf "$WORK"' EXIT
 
 # What is asked (`parts` gives it to each `worst`), what of it no certificate says, so that `check`
 # is told, how `parts` cuts, how `worst` searches, and what `join` is asked besides.
-ASKED=() READ=() CUT=() HOW=() AIM=()
+ASKED=() READ=() CUT=() HOW=() AIM=() BETWEEN=()
 while [ $# -gt 0 ]; do
-    case $1 in --cert-between) HOW+=("$1"); shift; continue ;; esac
+    case $1 in --cert-between) BETWEEN=("$1"); shift; continue ;; esac
     case $1 in --*=*) set -- "${1%%=*}" "${1#*=}" "${@:2}" ;; esac
     [ $# -ge 2 ] || { echo "many_machines.sh: $1 has no value" >&2; exit 2; }
     case $1 in
@@ -31,11 +31,12 @@ while [ $# -gt 0 ]; do
         ASKED+=("$1" "$2") ;;
     --output | --default-rise | --default-fall) ASKED+=("$1" "$2") READ+=("$1" "$2") ;;
     --strategy) CUT+=("$1" "$2") HOW+=("$1" "$2") ;;
-    --required) HOW+=("$1" "$2") AIM+=("$1" "$2") ;;
+    --required) HOW+=("$1" "$2") AIM+=("$1" "$2") BETWEEN=(--cert-between) ;;
     *) HOW+=("$1" "$2") ;;
     esac
     shift 2
 done
+HOW+=("${BETWEEN[@]}")
 
 "$TDELAY" parts "$FILE" --parts "$PARTS" "${ASKED[@]}" "${CUT[@]}" > "$WORK/parts"
 
