@@ -90,6 +90,12 @@ LIES = {
     "parts": {
         "a part is left out": where("parts", edited("$d")),
         "a part comes twice": where("parts", edited("$p")),
+        "a whole that stays open ends well": where(
+            "join", '$R "$@"; status=$?; [ $status = 3 ] && exit 0; exit $status'
+        ),
+        "a required moment that a whole leaves open is met": where(
+            "--required", edited(r"s/^\(required .*\) open$/\1 met/")
+        ),
     },
     "refutations": {
         "refused certificates are accepted, too": where("check", ACCEPTS),

@@ -16,12 +16,13 @@ def values_of(report):
 
 
 def figures_of(report):
-    """The figures of a search, None where there are none: both are the time of an exact answer, or
-    of parts that are joined unchecked.
+    """The figures of a search, or of parts that are joined, be it unchecked, None where there are
+    none: both are the time of an exact answer.
     """
     values = values_of(report)
-    exact = values.get("exact") or values.get("unchecked", "")
-    words = exact.split() * 2 or values.get("between", "").split()
+    exact, _, unchecked = values.get("unchecked", "").partition("between ")
+    exact = values.get("exact") or exact
+    words = exact.split() * 2 or (values.get("between") or unchecked).split()
     if len(words) != 2 or not all(word.isdigit() for word in words):
         return None
     return Figures(*map(int, words))
@@ -44,7 +45,8 @@ def rows_of(report):
 
 def is_exact(report):
     """Whether a search, or parts that are joined unchecked, answered exactly."""
-    return not values_of(report).keys().isdisjoint(("exact", "unchecked"))
+    values = values_of(report)
+    return "exact" in values or values.get("unchecked", "between").split()[0] != "between"
 
 
 def finds_no_pair(done):

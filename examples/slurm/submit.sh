@@ -2,10 +2,12 @@
 # submit.sh NETLIST PARTS [OPTION VALUE]..
 # Searches a netlist as a job array of Slurm: cuts the question into PARTS parts (parts.txt),
 # submits a task for each, and a job that joins their certificates into whole.cert when all have
-# ended (join.log). The options are those of `worst`; --cert and --vcd aren't needed.
+# ended (join.log). The options are those of `worst` that have a value, and --cert-between; --cert and
+# --vcd aren't needed.
 #
 # Run it in a folder that all nodes see. Run again with the same words, it submits those parts
-# alone that have no certificate; give a greater BUDGET where some were cut short. TDELAY is the
+# alone that have no certificate; give a greater BUDGET where some were cut short. With
+# --cert-between a part that was cut short may have one, and is joined as it is. TDELAY is the
 # program, ./tdelay where it isn't set, and MOST the most tasks at a time. A partition, an account
 # and such go by Slurm's own variables, as SBATCH_PARTITION.
 set -eu
@@ -16,12 +18,13 @@ shift 2
 TDELAY=${TDELAY:-./tdelay} BUDGET=${BUDGET:-} most=${MOST:-64}
 
 # What is asked (`parts` gives it to each `worst`), what of it no certificate says, so that `check`
-# is told, how `parts` cuts, and how `worst` searches.
-ASKED="" READ="" CUT="" HOW=""
+# is told, how `parts` cuts, how `worst` searches, and what `join` is asked besides.
+ASKED="" READ="" CUT="" HOW="" AIM=""
 while [ $# -gt 0 ]; do
     option=$1
     shift
     case $option in
+    --cert-between) HOW="$HOW $option"; continue ;;
     --*=*) value=${option#*=} option=${option%%=*} ;;
     *)
         [ $# -gt 0 ] || { echo "submit.sh: $option has no value" >&2; exit 2; }
@@ -34,11 +37,12 @@ while [ $# -gt 0 ]; do
     --output | --default-rise | --default-fall)
         ASKED="$ASKED $option $value" READ="$READ $option $value" ;;
     --strategy) CUT="$CUT $option $value" HOW="$HOW $option $value" ;;
+    --required) HOW="$HOW $option $value" AIM="$AIM $option $value" ;;
     --budget) BUDGET=$value ;;
     *) HOW="$HOW $option $value" ;;
     esac
 done
-export NETLIST TDELAY HOW ASKED READ BUDGET
+export NETLIST TDELAY HOW ASKED READ AIM BUDGET
 
 if [ ! -f parts.txt ]; then
     # shellcheck disable=SC2086 # words of the command line

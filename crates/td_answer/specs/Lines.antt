@@ -1,5 +1,5 @@
 -- The lines of the answer of a search.
-use Rattle.std.specs.Prelude.{ℕ, Bool, true, false, List, [], ◌∷◌, length, Option, Some, None}
+use Rattle.std.specs.Prelude.{ℕ, Bool, true, false, List, [], ◌∷◌, length, ◌==◌, if◌then◌else◌, Option, Some, None}
 use Rattle.td_domain.specs.Pairs.{Pair}
 use Rattle.td_certificate.specs.declared.certificate.Claim.{Claim}
 use Rattle.td_search.specs.declared.answers.Cause.{Cause}
@@ -34,6 +34,16 @@ abbrev pub time_line : Bool → ℕ → Line
 time_line true time = line.Exact time
 time_line false time = line.Unchecked time
 
+-- the two moments of one that leaves the worst delay open
+abbrev pub open_line : Bool → ℕ → ℕ → Line
+open_line true low high = line.Between low high
+open_line false low high = line.UncheckedBetween low high
+
+-- its time, and where that isn't surely the worst delay, the moment after which no admitted pair
+-- changes an output
+abbrev pub whole_line : Bool → ℕ → ℕ → Line
+whole_line checked time high = if time == high then time_line checked time else open_line checked time high
+
 abbrev pub none_line : Bool → Line
 none_line true = line.NoPair
 none_line false = line.UncheckedNone
@@ -42,7 +52,20 @@ none_line false = line.UncheckedNone
 abbrev pub whole_lines : Bool → Option Claim → ℕ → List Line
 whole_lines checked None nodes = none_line checked ∷ line.Nodes nodes ∷ []
 whole_lines checked (Some claim) nodes =
-    time_line checked claim.time ∷ line.From claim.pair.first ∷ line.To claim.pair.second ∷ line.Nodes nodes ∷ []
+    whole_line checked claim.time claim.high ∷ line.From claim.pair.first ∷ line.To claim.pair.second ∷ line.Nodes nodes ∷ []
+
+-- the line of a required moment, where it claims a pair
+abbrev pub standing_lines : Option ℕ → Option Claim → List Line
+standing_lines required None = []
+standing_lines required (Some claim) = required_lines required claim.time claim.high
+
+-- how a joining ends: as the two moments of the whole say, or as a required moment stands
+abbrev pub ending_of_moments : ℕ → ℕ → Status
+ending_of_moments time high = if time == high then status.Done else status.Between
+
+abbrev pub ending_of_whole : Option ℕ → Option Claim → Status
+ending_of_whole required None = status.Done
+ending_of_whole required (Some claim) = ending_by required (ending_of_moments claim.time claim.high) claim.time claim.high
 
 -- the pair of an answer
 abbrev pub pair_in : Answer → Pair

@@ -187,7 +187,6 @@ unjoined_text (join.OtherHold one other) = two_text one.now other.now (codes "ot
 unjoined_text (join.OtherFlips one other) = two_text one.now other.now (codes "other flips")
 unjoined_text (join.OtherMoments one other) = two_text one.now other.now (codes "other input times")
 unjoined_text (join.OtherTerms one other) = two_text one.now other.now (codes "other terms")
-unjoined_text (join.Open one) = one_text one.now (codes "open")
 unjoined_text (join.Outside one) = one_text one.now (codes "other pins")
 unjoined_text (join.Overlap one other) = two_text one.now other.now (codes "a pair in both")
 unjoined_text (join.Crossed one other) = two_text one.now other.now (codes "no position parts them")

@@ -117,7 +117,7 @@ pub(crate) fn not_joined(text: &mut Text, fault: &JoinFault<&str>) -> Result<(),
         JoinFault::OutOfMemory | JoinFault::NoCertificate | JoinFault::Gap(_) => {
             text.push(joins::sentence(fault))?
         }
-        JoinFault::Open(one) | JoinFault::Outside(one) | JoinFault::FalseNone(one) => {
+        JoinFault::Outside(one) | JoinFault::FalseNone(one) => {
             of_file(text, one, joins::sentence(fault))?
         }
         JoinFault::OtherCircuit(one, other)

@@ -73,7 +73,7 @@ const FALLS: [Taken<'static>; 2] = [
 ];
 
 /// The question about pairs that keep this, with at most so many flips.
-fn flipped(named: &'static [Taken<'static>], flips: u64) -> Question<'static> {
+pub fn flipped(named: &'static [Taken<'static>], flips: u64) -> Question<'static> {
     let Inputs { given, .. } = pinned(None);
     Question {
         inputs: Inputs { given, named },
@@ -218,10 +218,22 @@ fn joined(
     check: bool,
     question: Question<'static>,
 ) -> Result<Command<'static>, Fail> {
+    joined_by(alloc, names, check, question, None)
+}
+
+/// The same, by a required moment.
+pub fn joined_by(
+    alloc: Global,
+    names: &[&'static str],
+    check: bool,
+    question: Question<'static>,
+    required: Option<u64>,
+) -> Result<Command<'static>, Fail> {
     let names = Vec::from_slice(alloc, names)?;
     Ok(Command::Join(Join {
         parts: Files::new(names),
         question,
+        required,
         certificate: None,
         check,
     }))

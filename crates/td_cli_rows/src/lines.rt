@@ -224,6 +224,7 @@ fn told(alloc: Global) -> Result<Report, AllocError> {
     report.add(Line::AcceptedBetween { time: 2, high: 5 })?;
     report.add(Line::AcceptedNone)?;
     report.add(Line::Unchecked(3))?;
+    report.add(Line::UncheckedBetween { time: 3, high: 7 })?;
     report.add(Line::UncheckedNone)?;
     report.add(Line::Default { rise: 1, fall: 3 })?;
     report.add(Line::OutputNumbers(None))?;
@@ -323,9 +324,9 @@ fn prints_what_is_told(rt: HostRuntime) -> Result<(), Fail> {
         &rt,
         rt.alloc(),
         &report,
-        "accepted between 2 5\naccepted none\nunchecked 3\nunchecked none\ndefault 1 3\noutput all\n\
+        "accepted between 2 5\naccepted none\nunchecked 3\nunchecked between 3 7\nunchecked none\ndefault 1 3\noutput all\n\
 output 4\nkeep 2 01 5 ==\n",
-        "{\"proved\":true,\"accepted\":[2,5],\"accepted\":\"none\",\"unchecked\":3,\"unchecked\":\"none\",\
+        "{\"proved\":true,\"accepted\":[2,5],\"accepted\":\"none\",\"unchecked\":3,\"unchecked\":[3,7],\"unchecked\":\"none\",\
 \"default\":\"1 3\",\"output\":[\"all\"],\
 \"output\":[[4]],\
 \"keep\":\"2 01 5 ==\"}\n",

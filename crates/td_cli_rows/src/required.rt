@@ -1,7 +1,11 @@
 //! Requests with a required moment.
 
-use crate::answers::{ALONE, ROOM, answered, says, search};
+use crate::answers::{ALONE, ROOM, answered, flipped, joined_by, says, search};
+use std::alloc::Global;
+use std::sync::Wait;
 use std::test::*;
+use std::thread::Threads;
+use std::time::Clock;
 use td_answer::Status;
 use td_certificate::write;
 use td_request::Command;
@@ -68,5 +72,69 @@ fn certificates_of_both_figures(rt: HostRuntime) -> Result<(), Fail> {
         }
         assert!(&rt; sink.bytes().is_empty() != is_decided);
     }
+    Ok(())
+}
+
+/// Appends the certificate of the part with this first vector, searched within so many nodes, also
+/// where it stays open.
+fn push_part<R: Threads + Wait + Clock + Sync>(
+    rt: &R,
+    alloc: Global,
+    first: &'static str,
+    budget: u32,
+    texts: &mut Vec<Vec<u8>>,
+) -> Result<(), Fail> {
+    let mut sink = MemorySink::new(alloc, ROOM, 7)?;
+    let Command::Worst(mut search) = search(Some(first), budget, ALONE, None) else {
+        return Ok(());
+    };
+    search.certificate = Some("out");
+    search.between = true;
+    if let Ok(outcome) = answered(rt, alloc, Command::Worst(search), &[]) {
+        if let Some(certificate) = &outcome.certificate {
+            if write(alloc, &mut sink, certificate).is_err() {
+                return Ok(());
+            }
+        }
+    }
+    texts.push(Vec::from_slice(alloc, sink.bytes())?)?;
+    Ok(())
+}
+
+/// Parts that stay open are joined: the whole has the greatest of both figures, and they say how a
+/// required moment stands.
+#[test]
+fn joins_open_parts(rt: HostRuntime) -> Result<(), Fail> {
+    let alloc = rt.alloc();
+    let mut texts = Vec::new(alloc);
+    push_part(&rt, alloc, "0.", 0, &mut texts)?;
+    push_part(&rt, alloc, "1.", 0, &mut texts)?;
+    let names = ["p0", "p1"];
+    let plain = b"unit 1 ns\ndefaulted 0\nbetween 3 5\nfrom 00\nto 11\nnodes 3\n";
+    let both = joined_by(alloc, &names, true, flipped(&[], 2), None)?;
+    assert!(rt; says(&rt, alloc, both, &texts, Status::Between, plain)?);
+    let open = b"unit 1 ns\ndefaulted 0\nbetween 3 5\nfrom 00\nto 11\nnodes 3\nrequired 4 open\n";
+    let both = joined_by(alloc, &names, true, flipped(&[], 2), Some(4))?;
+    assert!(rt; says(&rt, alloc, both, &texts, Status::Between, open)?);
+    let met = b"unit 1 ns\ndefaulted 0\nbetween 3 5\nfrom 00\nto 11\nnodes 3\nrequired 5 met\n";
+    let both = joined_by(alloc, &names, true, flipped(&[], 2), Some(5))?;
+    assert!(rt; says(&rt, alloc, both, &texts, Status::Done, met)?);
+    let violated =
+        b"unit 1 ns\ndefaulted 0\nunchecked between 3 5\nfrom 00\nto 11\nnodes 3\nrequired 2 violated\n";
+    let both = joined_by(alloc, &names, false, flipped(&[], 2), Some(2))?;
+    assert!(rt; says(&rt, alloc, both, &texts, Status::Violated, violated)?);
+    Ok(())
+}
+
+/// An open part and one that is as late as the open one may be are an exact whole.
+#[test]
+fn joins_an_open_part_to_an_exact_one(rt: HostRuntime) -> Result<(), Fail> {
+    let alloc = rt.alloc();
+    let mut texts = Vec::new(alloc);
+    push_part(&rt, alloc, "0.", 0, &mut texts)?;
+    push_part(&rt, alloc, "1.", 1000, &mut texts)?;
+    let exact = b"unit 1 ns\ndefaulted 0\nexact 5\nfrom 10\nto 00\nnodes 9\nrequired 4 violated\n";
+    let both = joined_by(alloc, &["p0", "p1"], true, flipped(&[], 2), Some(4))?;
+    assert!(rt; says(&rt, alloc, both, &texts, Status::Violated, exact)?);
     Ok(())
 }

@@ -149,8 +149,8 @@ parts_command strategies =
 
 abbrev pub join_command : App
 join_command =
-    command_of (codes "join") (needed (codes "FILE") ∷ needed_words (codes "CERT") ∷ certificate_rule ∷ flag (codes "check") ∷ flag (codes "no-check") ∷
-    admitted_rules ++ option (codes "at") ∷ outputs_rule ∷ [])
+    command_of (codes "join") (needed (codes "FILE") ∷ needed_words (codes "CERT") ∷ count_option (codes "required") ∷ certificate_rule ∷ flag (codes "check")
+    ∷ flag (codes "no-check") ∷ admitted_rules ++ option (codes "at") ∷ outputs_rule ∷ [])
 
 abbrev pub check_command : App
 check_command = command_of (codes "check") (needed (codes "FILE") ∷ needed (codes "CERT") ∷ outputs_rule ∷ [])

@@ -102,6 +102,7 @@ pub record SaysParts (rows : List Row) (named : List Taken) (said : Parts) : Typ
 pub record SaysJoin (rows : List Row) (named : List Taken) (said : Join) : Type 0 where
   pub parts : HasWords (codes "CERT") rows said.parts
   pub question : SaysQuestion rows named said.question
+  pub required : HasCount (codes "required") rows said.required
   pub certificate : HasWord (codes "cert") rows said.certificate
   pub check : LacksFlag (codes "no-check") rows said.check
 

@@ -188,11 +188,13 @@ fn joined<'a>(
     ensures { IsAnswered (SaysCommand (codes "join") (rows_of (found_of matches.now)) named.entry.now) result }
 {
     let question = question(matches, named)?;
+    let required = count(matches, "required")?;
     let check = flag_left_out(matches, "no-check")?;
     let certificate = word(matches, "cert");
     Some(Command::Join(Join {
         parts,
         question,
+        required,
         certificate,
         check,
     }))

@@ -366,15 +366,20 @@ lies between two figures",
         )
     }
 
-    /// The certificates that are joined, where theirs goes, and whether each is checked, which is
-    /// said or left out.
+    /// The certificates that are joined, by which moment outputs are to settle, where theirs goes,
+    /// and whether each is checked, which is said or left out.
     pub(crate) fn joined(&mut self) -> Result<(), AllocError>
-        ensures { OnOk result (TellsRules (needed_words (codes "CERT") ∷ certificate_rule ∷ flag (codes "check") ∷ flag (codes "no-check") ∷ []) self.old self.new) }
+        ensures { OnOk result (TellsRules (needed_words (codes "CERT") ∷ count_option (codes "required") ∷ certificate_rule ∷ flag (codes "check") ∷ flag (codes "no-check") ∷ []) self.old self.new) }
     {
         self.needed_words(
             "CERT",
             "The certificates of the parts, each a path, or `-` or `stdin` for\n\
 standard input",
+        )?;
+        self.count(
+            "required",
+            "Whether all outputs settle by this moment, in steps. Status 0 where\n\
+they do, 6 where a pair is later, 3 where it stays open",
         )?;
         self.certificate_out("Writes the certificate of the whole question to this file")?;
         self.flag(

@@ -206,6 +206,10 @@ refused_line number name line = codes "refused " ++ decimal number ++ codes " " 
 abbrev pub accepted_line : ℕ → ℕ → List ℕ
 accepted_line time high = codes "accepted between " ++ decimal time ++ codes " " ++ decimal high ++ newline
 
+-- the same of certificates that are joined and weren't checked
+abbrev pub unchecked_line : ℕ → ℕ → List ℕ
+unchecked_line time high = codes "unchecked between " ++ decimal time ++ codes " " ++ decimal high ++ newline
+
 abbrev pub default_line : ℕ → ℕ → List ℕ
 default_line rise fall = codes "default " ++ decimal rise ++ codes " " ++ decimal fall ++ newline
 
@@ -245,6 +249,7 @@ line_text (line.Accepted time) = number_line (codes "accepted ") time
 line_text (line.AcceptedBetween time high) = accepted_line time high
 line_text line.AcceptedNone = codes "accepted none" ++ newline
 line_text (line.Unchecked time) = number_line (codes "unchecked ") time
+line_text (line.UncheckedBetween time high) = unchecked_line time high
 line_text line.UncheckedNone = codes "unchecked none" ++ newline
 line_text (line.Default rise fall) = default_line rise fall
 line_text (line.OutputNumbers numbers) = output_line numbers

@@ -200,6 +200,11 @@ pub enum Line {
     AcceptedNone,
     /// The time of certificates that are joined and weren't checked.
     Unchecked(u64),
+    /// Where they leave the worst delay open, as where one that is accepted does.
+    UncheckedBetween {
+        time: u64,
+        high: u64,
+    },
     /// Where they claim that no pair is admitted.
     UncheckedNone,
     /// The delays of gates that state none, in steps, of a certificate.

@@ -126,6 +126,7 @@ fn member(alloc: Global, writer: &mut Writer, line: &Line) -> Result<(), AllocEr
         Line::AcceptedBetween { time, high } => two(writer, "accepted", *time, *high),
         Line::AcceptedNone => word(writer, "accepted", "none"),
         Line::Unchecked(time) => count_of(writer, "unchecked", *time),
+        Line::UncheckedBetween { time, high } => two(writer, "unchecked", *time, *high),
         Line::UncheckedNone => word(writer, "unchecked", "none"),
         Line::Default { rise, fall } => claims::default(alloc, writer, *rise, *fall),
         Line::OutputNumbers(numbers) => claims::output_numbers(writer, numbers),

@@ -2,7 +2,7 @@
 
 ghost use Rattle.std.specs.Prelude.{◌≡◌, ◌++◌, List, ℕ, codes, Some, OnOk};
 ghost use Rattle.std.specs.List.{flat_map};
-ghost use Rattle.td_lines.specs.Texts.{unit_line, number_line, delay_line, place_line, place_lines, moment_text, last_line, bound_text, bound_line, figure_key, between_line, cause_line, standing_text, required_line, bit, bits, vector_line, line_text, report_text, word_line, spaced, spaced_moment, at_line, place_text, refused_line, accepted_line, default_line, output_line, level_text, kind_text, by_text, levels_text, changed_text, change_line, words_text, spaced_word, part_line};
+ghost use Rattle.td_lines.specs.Texts.{unit_line, number_line, delay_line, place_line, place_lines, moment_text, last_line, bound_text, bound_line, figure_key, between_line, cause_line, standing_text, required_line, bit, bits, vector_line, line_text, report_text, word_line, spaced, spaced_moment, at_line, place_text, refused_line, accepted_line, unchecked_line, default_line, output_line, level_text, kind_text, by_text, levels_text, changed_text, change_line, words_text, spaced_word, part_line};
 
 use crate::label::Label;
 use crate::line::{Cause, Change, Driver, Figure, Last, Line, Part, Place, Span, Standing};
@@ -76,6 +76,7 @@ impl Printed for Line {
             Line::AcceptedBetween { time, high } => accepted_between(out, *time, *high),
             Line::AcceptedNone => out.push(b"accepted none\n"),
             Line::Unchecked(time) => number(out, b"unchecked ", *time),
+            Line::UncheckedBetween { time, high } => unchecked_between(out, *time, *high),
             Line::UncheckedNone => out.push(b"unchecked none\n"),
             Line::Default { rise, fall } => default(out, *rise, *fall),
             Line::OutputNumbers(numbers) => output_numbers(out, numbers),
@@ -390,6 +391,13 @@ fn accepted_between(out: &mut Text, time: u64, high: u64) -> Result<(), AllocErr
     ensures { OnOk result (out.new ≡ out.old ++ accepted_line time high) }
 {
     out.number_behind(b"accepted between ", time)?;
+    out.number_between(b" ", high, b"\n")
+}
+
+fn unchecked_between(out: &mut Text, time: u64, high: u64) -> Result<(), AllocError>
+    ensures { OnOk result (out.new ≡ out.old ++ unchecked_line time high) }
+{
+    out.number_behind(b"unchecked between ", time)?;
     out.number_between(b" ", high, b"\n")
 }
 

@@ -129,6 +129,8 @@ pub struct Join<'a> {
     pub parts: Files<'a>,
     /// The whole question.
     pub question: Question<'a>,
+    /// By which moment all outputs are to settle, where that is asked.
+    pub required: Option<u64>,
     /// Where its certificate goes.
     pub certificate: Option<&'a str>,
     /// Whether each part's certificate is checked.
