@@ -129,9 +129,13 @@ fn bound<'a>(matches: &ArgMatches<'a>, named: &'a [Taken<'a>]) -> Option<Command
     let edges = flag_given(matches, "edges")?;
     let outputs = flag_given(matches, "outputs")?;
     let earliest = flag_given(matches, "earliest")?;
+    let flips = count(matches, "flips")?;
+    let required = count(matches, "required")?;
     let inputs = inputs(matches, named);
     Some(Command::Bound(Bound {
         inputs,
+        flips,
+        required,
         edges,
         outputs,
         earliest,
@@ -170,11 +174,13 @@ fn parts<'a>(matches: &ArgMatches<'a>, named: &'a [Taken<'a>]) -> Option<Command
     let question = question(matches, named)?;
     let strategy = strategy(matches)?;
     let parts = parts_number(matches)?;
+    let required = count(matches, "required")?;
     let count = Count { parts };
     Some(Command::Parts(Parts {
         question,
         strategy,
         count,
+        required,
     }))
 }
 

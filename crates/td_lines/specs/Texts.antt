@@ -1,5 +1,5 @@
 -- The text of a report.
-use Rattle.std.specs.Prelude.{ℕ, Bool, true, false, List, [], ◌∷◌, ◌++◌, map, codes, decimal, Option, Some, None, ◌==◌, if◌then◌else◌}
+use Rattle.std.specs.Prelude.{ℕ, ◌-◌, nat_lt, Bool, true, false, List, [], ◌∷◌, ◌++◌, map, codes, decimal, Option, Some, None, ◌==◌, if◌then◌else◌}
 use Rattle.std.specs.List.{flat_map}
 use Rattle.td_gates.specs.declared.primitives.Kind.{Kind}
 use Rattle.td_gates.specs.declared.primitives.Kind.TheVariants as kind
@@ -22,6 +22,7 @@ use Rattle.td_lines.specs.declared.line.Part.{Part}
 use Rattle.td_lines.specs.declared.line.Found.{Found}
 use Rattle.td_lines.specs.declared.line.Found.TheVariants as found
 use Rattle.td_lines.specs.declared.line.Changes.{Changes}
+use Rattle.td_lines.specs.declared.line.Requirement.{Requirement}
 use Rattle.td_lines.specs.declared.line.Row.{Row}
 use Rattle.td_lines.specs.declared.line.Hazard.{Hazard}
 use Rattle.td_lines.specs.declared.line.Hazard.TheVariants as hazard
@@ -158,9 +159,28 @@ changes_text None = []
 changes_text (Some changes) =
     codes " rise " ++ column_text changes.rise ++ codes " fall " ++ column_text changes.fall ++ codes " glitch " ++ column_text changes.glitch
 
+-- a required moment less a figure, below 0 where the figure is later
+abbrev pub slack_text : ℕ → ℕ → List ℕ
+slack_text moment figure = if nat_lt moment figure then codes "-" ++ decimal (figure - moment) else decimal (moment - figure)
+
+-- that of the figure; of two figures both, the lower slack first, which is that of the upper figure;
+-- `none` in place of that of a figure that isn't known, and of both where there is no pair
+abbrev pub slacks_text : ℕ → Found → List ℕ
+slacks_text moment (found.Exact time) = slack_text moment time
+slacks_text moment (found.Between low high) = slack_text moment high ++ codes ".." ++ slack_text moment low
+slacks_text moment (found.AtMost high) = slack_text moment high ++ codes "..none"
+slacks_text moment found.NoPair = codes "none"
+
+-- how a required moment stands, and its slack, where one is required
+abbrev pub requirement_text : Option Requirement → Found → List ℕ
+requirement_text None found = []
+requirement_text (Some required) found =
+    codes " required " ++ standing_text required.standing ++ codes " slack " ++ slacks_text required.moment found
+
 abbrev pub row_line : Row → List ℕ
 row_line row =
-    codes "each " ++ row.output ++ codes " " ++ found_text row.found ++ edges_text row.edges ++ changes_text row.changes ++ newline
+    codes "each " ++ row.output ++ codes " " ++ found_text row.found ++ edges_text row.edges ++ changes_text row.changes
+    ++ requirement_text row.required row.found ++ newline
 
 -- a pair of vectors, or why there is none
 abbrev pub hazard_text : Hazard → List ℕ

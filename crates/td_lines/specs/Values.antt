@@ -21,13 +21,14 @@ use Rattle.td_lines.specs.declared.line.Part.{Part}
 use Rattle.td_lines.specs.declared.line.Found.{Found}
 use Rattle.td_lines.specs.declared.line.Found.TheVariants as found
 use Rattle.td_lines.specs.declared.line.Changes.{Changes}
+use Rattle.td_lines.specs.declared.line.Requirement.{Requirement}
 use Rattle.td_lines.specs.declared.line.Row.{Row}
 use Rattle.td_lines.specs.declared.line.Hazard.{Hazard}
 use Rattle.td_lines.specs.declared.line.Hazard.TheVariants as hazard
 use Rattle.td_lines.specs.declared.line.HazardRow.{HazardRow}
 use Rattle.td_lines.specs.declared.line.Line.{Line}
 use Rattle.td_lines.specs.declared.line.Line.TheVariants as line
-use Rattle.td_lines.specs.Texts.{bit, bits, late, figure_key, level_text, kind_text, newline, standing_text}
+use Rattle.td_lines.specs.Texts.{bit, bits, late, figure_key, level_text, kind_text, newline, slack_text, standing_text}
 
 -- these tokens were added, and what stood before them stays
 pub record Adds (old new : Written) (tokens : List Token) : Type 0 where
@@ -96,15 +97,36 @@ column_value (found.Between low high) = numbers_of low high
 column_value (found.AtMost high) = none_to high
 column_value found.NoPair = string (codes "none")
 
-abbrev pub changes_value : Option Changes → Items
-changes_value None = no_items
-changes_value (Some changes) =
+-- what is found by the levels, where that is asked for, and the items after it
+abbrev pub changes_value : Option Changes → Items → Items
+changes_value None others = others
+changes_value (Some changes) others =
     item (string (codes "rise")) (item (column_value changes.rise) (item (string (codes "fall")) (item (column_value changes.fall)
-    (item (string (codes "glitch")) (item (column_value changes.glitch) no_items)))))
+    (item (string (codes "glitch")) (item (column_value changes.glitch) others)))))
 
--- the bound by edges of a row, and what is found by the levels
+-- a required moment less a figure
+abbrev pub slack_value : ℕ → ℕ → Json
+slack_value moment figure = number (slack_text moment figure)
+
+-- that of the figure; of two figures both, the lower slack first; null in place of that of a figure
+-- that isn't known, and a word where there is no pair
+abbrev pub slacks_value : ℕ → Found → Json
+slacks_value moment (found.Exact time) = slack_value moment time
+slacks_value moment (found.Between low high) = array (item (slack_value moment high) (item (slack_value moment low) no_items))
+slacks_value moment (found.AtMost high) = array (item (slack_value moment high) (item null no_items))
+slacks_value moment found.NoPair = string (codes "none")
+
+-- how a required moment stands, and its slack, where one is required
+abbrev pub requirement_value : Option Requirement → Found → Items
+requirement_value None found = no_items
+requirement_value (Some required) found =
+    item (string (codes "required")) (item (string (standing_text required.standing)) (item (string (codes "slack"))
+    (item (slacks_value required.moment found) no_items)))
+
+-- the bound by edges of a row, what is found by the levels, and how a required moment stands
 abbrev pub edges_value : Row → Items
-edges_value row = item (string (codes "edges")) (item (moment_of row.edges) (changes_value row.changes))
+edges_value row =
+    item (string (codes "edges")) (item (moment_of row.edges) (changes_value row.changes (requirement_value row.required row.found)))
 
 abbrev pub found_value : Found → Row → Items
 found_value (found.Exact time) row = item (string (codes "exact")) (item (number (decimal time)) (edges_value row))

@@ -42,6 +42,10 @@ pub struct Path<'a> {
 #[derive(Clone, Copy)]
 pub struct Bound<'a> {
     pub inputs: Inputs<'a>,
+    /// At how many inputs, at most, the two vectors differ.
+    pub flips: Option<u64>,
+    /// The moment by which outputs are to settle, in steps.
+    pub required: Option<u64>,
     /// Whether the bounds by edges are asked for too.
     pub edges: bool,
     /// Whether it is asked which output has the bound.
@@ -120,6 +124,8 @@ pub struct Parts<'a> {
     pub question: Question<'a>,
     pub strategy: Strategy,
     pub count: Count,
+    /// The moment by which outputs are to settle, in steps.
+    pub required: Option<u64>,
 }
 
 /// One certificate of those of a question's parts.
