@@ -251,7 +251,7 @@ module _ (strategy : Strategy) (circuit : Numbered) (numbering : IsNumbering cir
       go false is =
           let above = leb-false own high is in
           let side : IsBelow (zero_place place p) = λ b other. let same = strongest_one strategy circuit numbering fit place.cube count own b is_own other in omega (arith, above, same) in
-          let f = rest [] (zero_place place p ∷ one_place place p ∷ places) (record { forest = e; well = well; long = sides_long }) (side, side, below) in
+          let f = rest [] (zero_place place p ∷ one_place place p ∷ places) (record { forest = e; well = well; long = sides_long }) (side, (side, below)) in
           let few = numbering.well_formed.few_inputs in
           let lt = slice_get_within place.cube p Free settled.0 in
           one_more (place ∷ places) (zero_place place p ∷ one_place place p ∷ places) xs (lines.Split p) (lines_by 0 xs) f

@@ -165,7 +165,7 @@ pub fn folded_tree(fold: Fold<'_>, space: Vec<CertificateNode>, nodes: &[Node]) 
     requires empty { space.items ≡ [] }
     requires spacious { length nodes.now ≤ vec_capacity space }
     requires tree { IsTree (folded fold.bounds.now fold.domain fold.high 0 nodes.now) }
-    ensures { result ≡ folded fold.bounds.now fold.domain fold.high 0 nodes.now }
+    ensures { result ≡ folded fold.entry.bounds.now fold.entry.domain fold.entry.high 0 nodes.now }
 {
     Tree::from_nodes(fold.nodes(space, nodes))
 }
