@@ -24,7 +24,7 @@ while [ $# -gt 0 ]; do
     case $1 in --*=*) set -- "${1%%=*}" "${1#*=}" "${@:2}" ;; esac
     [ $# -ge 2 ] || { echo "many_machines.sh: $1 has no value" >&2; exit 2; }
     case $1 in
-    --first | --second | --pin | --hold | --hold-input | --keep | --flips | --at)
+    --first | --second | --pin | --hold | --hold-input | --keep | --flips | --at | --required)
         ASKED+=("$1" "$2") ;;
     --output | --default-rise | --default-fall) ASKED+=("$1" "$2") READ+=("$1" "$2") ;;
     --strategy) CUT+=("$1" "$2") HOW+=("$1" "$2") ;;
@@ -44,7 +44,7 @@ shift 3
 "$TDELAY" worst "$file" $(sed -n "${part}p" "$work/parts") "$@" --cert "$work/$part.cert" \
     > "$work/$part.out"
 status=$?
-[ $status -eq 0 ] || [ $status -eq 3 ]
+[ $status -eq 0 ] || [ $status -eq 3 ] || [ $status -eq 6 ]
 PART
 chmod +x "$WORK/part"
 
