@@ -27,7 +27,7 @@ while [ $# -gt 0 ]; do
     case $1 in --*=*) set -- "${1%%=*}" "${1#*=}" "${@:2}" ;; esac
     [ $# -ge 2 ] || { echo "many_machines.sh: $1 has no value" >&2; exit 2; }
     case $1 in
-    --first | --second | --pin | --hold | --hold-input | --keep | --flips | --at)
+    --first | --second | --pin | --hold | --hold-input | --keep | --flips | --at | --required)
         ASKED+=("$1" "$2") ;;
     --output | --default-rise | --default-fall) ASKED+=("$1" "$2") READ+=("$1" "$2") ;;
     --strategy) CUT+=("$1" "$2") HOW+=("$1" "$2") ;;

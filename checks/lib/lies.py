@@ -113,6 +113,10 @@ LIES = {
         "a violated moment ends well": where(
             "--required", '$R "$@"; status=$?; [ $status = 6 ] && exit 0; exit $status'
         ),
+        "a slack without its sign": where("--each", edited(r"s/ slack -/ slack /")),
+        "a bound that is one greater meets": where(
+            "bound", edited(r"s/^required \([0-9]*\) open$/required \1 met/")
+        ),
         "an upper figure that is one less": where(
             "--cert-between",
             """$R "$@" | awk '$1 == "between" && $3 > 1 { $3 -= 1 } 1'; exit ${PIPESTATUS[0]}""",

@@ -32,7 +32,7 @@ while [ $# -gt 0 ]; do
         shift ;;
     esac
     case $option in
-    --first | --second | --pin | --hold | --hold-input | --keep | --flips | --at)
+    --first | --second | --pin | --hold | --hold-input | --keep | --flips | --at | --required)
         ASKED="$ASKED $option $value" ;;
     --output | --default-rise | --default-fall)
         ASKED="$ASKED $option $value" READ="$READ $option $value" ;;

@@ -1,5 +1,5 @@
 -- What is true of the outcome of a search for each output.
-use Rattle.std.specs.Prelude.{◌≡◌, ℕ, Bool, true, false, ◌&&◌, ◌||◌, not, cond, is_some, List, [], ◌∷◌, ◌++◌, Option, Some, None}
+use Rattle.std.specs.Prelude.{◌≡◌, ℕ, Bool, true, false, ◌&&◌, not, cond, is_some, List, [], ◌∷◌, ◌++◌, Option, Some, None}
 use Rattle.std.specs.List.{AllZip}
 use Rattle.td_nets.specs.Netlist.{Name}
 use Rattle.td_reading.specs.declared.reading.Reading.{Reading}
@@ -100,7 +100,7 @@ is_violated (Some required) = is_late required.standing
 -- some output is later than the required moment
 abbrev pub any_violated : List Row → Bool
 any_violated [] = false
-any_violated (row ∷ rows) = is_violated row.required || any_violated rows
+any_violated (row ∷ rows) = cond (is_violated row.required) true (any_violated rows)
 
 -- the required moment is violated, or some search was cut short, or nothing is left open
 abbrev pub table_ending : Bool → List Row → Status

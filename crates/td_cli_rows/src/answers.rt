@@ -403,6 +403,8 @@ fn describes(rt: HostRuntime) -> Result<(), Fail> {
     let alloc = rt.alloc();
     let bound = Command::Bound(Bound {
         inputs: pinned(None),
+        flips: None,
+        required: None,
         edges: true,
         outputs: true,
         earliest: true,
@@ -418,8 +420,10 @@ fn describes(rt: HostRuntime) -> Result<(), Fail> {
         },
         strategy: Strategy::Least,
         count: Count { parts: 2 },
+        required: Some(4),
     });
-    let options = b"--first 0. --second .. --flips 2\n--first 1. --second .. --flips 2\n";
+    let options =
+        b"--first 0. --second .. --flips 2 --required 4\n--first 1. --second .. --flips 2 --required 4\n";
     assert!(rt; says(&rt, alloc, parts, &[], Status::Done, options)?);
     let info =
         b"module t\nunit 1 ns\ninputs 2\noutputs 2\ngates 2\ndefaulted 0\ndepth 1\ndelay 2 5\ninput 0 a\ninput 1 b\noutput 0 y\noutput 1 z\n";

@@ -8,7 +8,8 @@ use std::thread::Threads;
 use std::time::Clock;
 use td_answer::Status;
 use td_certificate::write;
-use td_request::Command;
+use td_inputs::Given;
+use td_request::{Bound, Command, Inputs, Table};
 use td_text::MemorySink;
 
 /// The search for the worst delay of the netlist, which is 5, within so many nodes, where this moment
@@ -136,5 +137,81 @@ fn joins_an_open_part_to_an_exact_one(rt: HostRuntime) -> Result<(), Fail> {
     let exact = b"unit 1 ns\ndefaulted 0\nexact 5\nfrom 10\nto 00\nnodes 9\nrequired 4 violated\n";
     let both = joined_by(alloc, &["p0", "p1"], true, flipped(&[], 2), Some(4))?;
     assert!(rt; says(&rt, alloc, both, &texts, Status::Violated, exact)?);
+
+/// The table of the outputs, of which the first one changes last at moment 3 and the second one at
+/// moment 5, within so many nodes, where this moment is required.
+fn each_required(moment: u64, budget: u32, table: Table) -> Command<'static> {
+    match search(None, budget, ALONE, Some(table)) {
+        Command::Worst(mut search) => {
+            search.required = Some(moment);
+            Command::Worst(search)
+        }
+        other => other,
+    }
+}
+
+/// Each row of a table says how the required moment stands, and its slack; the status is that of the
+/// worst row.
+#[test]
+fn tables_with_slacks(rt: HostRuntime) -> Result<(), Fail> {
+    let met =
+        b"unit 1 ns\ndefaulted 0\neach y exact 3 edges 3 required met slack 2\neach z exact 5 edges 5 required met slack 0\n";
+    let each = each_required(5, 1000, Table::Delays);
+    assert!(rt; says(&rt, rt.alloc(), each, &[], Status::Done, met)?);
+    let violated =
+        b"unit 1 ns\ndefaulted 0\neach y exact 3 edges 3 required met slack 1\neach z exact 5 edges 5 required violated slack -1\n";
+    let each = each_required(4, 1000, Table::Delays);
+    assert!(rt; says(&rt, rt.alloc(), each, &[], Status::Violated, violated)?);
+    let open =
+        b"unit 1 ns\ndefaulted 0\neach y between 3 3 edges 3 required met slack 1..1\neach z between 0 5 edges 5 required open slack -1..4\n";
+    let each = each_required(4, 0, Table::Delays);
+    assert!(rt; says(&rt, rt.alloc(), each, &[], Status::Between, open)?);
+    let decided =
+        b"unit 1 ns\ndefaulted 0\neach y between 3 3 edges 3 required met slack 2..2\neach z between 0 5 edges 5 required met slack 0..5\n";
+    let each = each_required(5, 0, Table::Delays);
+    assert!(rt; says(&rt, rt.alloc(), each, &[], Status::Done, decided)?);
+    let changes =
+        b"unit 1 ns\ndefaulted 0\neach y exact 3 edges 3 rise 2 fall 3 glitch never required met slack 1\neach z exact 5 edges 5 rise 4 fall 5 glitch never required violated slack -1\n";
+    let each = each_required(4, 1000, Table::Changes { figures: true });
+    assert!(rt; says(&rt, rt.alloc(), each, &[], Status::Violated, changes)?);
+    Ok(())
+}
+
+/// The bounds of all pairs, where this moment is required.
+fn bound_required(moment: u64) -> Command<'static> {
+    Command::Bound(Bound {
+        inputs: Inputs {
+            given: Given {
+                first: None,
+                second: None,
+                hold: Some("=."),
+                at: None,
+            },
+            named: &[],
+        },
+        flips: Some(1),
+        required: Some(moment),
+        edges: false,
+        outputs: false,
+        earliest: false,
+    })
+}
+
+/// Bounds say that a required moment is met, or that it stays open.
+#[test]
+fn bounds_that_meet(rt: HostRuntime) -> Result<(), Fail> {
+    let met = b"unit 1 ns\ndefaulted 0\na 5\nt none\nm 5\ne 5\nn 5\nrequired 5 met\n";
+    assert!(rt; says(&rt, rt.alloc(), bound_required(5), &[], Status::Done, met)?);
+    let open = b"unit 1 ns\ndefaulted 0\na 5\nt none\nm 5\ne 5\nn 5\nrequired 4 open\n";
+    assert!(rt;
+        says(
+            &rt,
+            rt.alloc(),
+            bound_required(4),
+            &[],
+            Status::Between,
+            open
+        )?
+    );
     Ok(())
 }

@@ -97,12 +97,17 @@ column_value (found.Between low high) = numbers_of low high
 column_value (found.AtMost high) = none_to high
 column_value found.NoPair = string (codes "none")
 
--- what is found by the levels, where that is asked for, and the items after it
+-- what is found by the levels, and the items after it
+abbrev pub glitch_value : Changes → Items → Items
+glitch_value changes others = item (string (codes "glitch")) (item (column_value changes.glitch) others)
+
+abbrev pub fall_value : Changes → Items → Items
+fall_value changes others = item (string (codes "fall")) (item (column_value changes.fall) (glitch_value changes others))
+
+-- the same, where that is asked for
 abbrev pub changes_value : Option Changes → Items → Items
 changes_value None others = others
-changes_value (Some changes) others =
-    item (string (codes "rise")) (item (column_value changes.rise) (item (string (codes "fall")) (item (column_value changes.fall)
-    (item (string (codes "glitch")) (item (column_value changes.glitch) others)))))
+changes_value (Some changes) others = item (string (codes "rise")) (item (column_value changes.rise) (fall_value changes others))
 
 -- a required moment less a figure
 abbrev pub slack_value : ℕ → ℕ → Json

@@ -4,7 +4,7 @@ ghost use Rattle.std.specs.Prelude.{◌≡◌, ◌++◌, codes, Some, None, OnOk
 ghost use Rattle.json.specs.Tree.{json_tokens, items_tokens};
 ghost use Rattle.td_lines.specs.declared.line.Found.TheVariants as FoundAs;
 ghost use Rattle.td_lines.specs.Texts.{found_text, edges_text, late, column_text, changes_text, requirement_text, row_line};
-ghost use Rattle.td_lines.specs.Values.{Adds, column_value, changes_value, edges_value, found_value, requirement_value, row_value};
+ghost use Rattle.td_lines.specs.Values.{Adds, column_value, glitch_value, fall_value, changes_value, edges_value, found_value, requirement_value, row_value};
 
 use crate::line::{Changes, Found, Row};
 use crate::members::{Valued, below, moment as moment_value, numbers};
@@ -112,6 +112,35 @@ fn column_of(writer: &mut Writer, found: Found) -> Result<(), AllocError>
     }
 }
 
+/// The column of glitches, and what follows it.
+fn glitch_of(
+    alloc: Global,
+    writer: &mut Writer,
+    changes: &Changes,
+    row: &Row,
+) -> Result<(), AllocError>
+    ensures { OnOk result (Adds writer.old writer.new (items_tokens (glitch_value changes.now (requirement_value row.now.required row.now.found)))) }
+{
+    writer.string("glitch")?;
+    column_of(writer, changes.glitch)?;
+    requirement_of(alloc, writer, row.required, row.found)
+}
+
+/// The column of falls, and what follows it.
+fn fall_of(
+    alloc: Global,
+    writer: &mut Writer,
+    changes: &Changes,
+    row: &Row,
+) -> Result<(), AllocError>
+    ensures { OnOk result (Adds writer.old writer.new (items_tokens (fall_value changes.now (requirement_value row.now.required row.now.found)))) }
+{
+    writer.string("fall")?;
+    column_of(writer, changes.fall)?;
+    glitch_of(alloc, writer, changes, row)
+}
+
+/// All columns of changes, and what follows them.
 fn changed_of(
     alloc: Global,
     writer: &mut Writer,
@@ -122,11 +151,7 @@ fn changed_of(
 {
     writer.string("rise")?;
     column_of(writer, changes.rise)?;
-    writer.string("fall")?;
-    column_of(writer, changes.fall)?;
-    writer.string("glitch")?;
-    column_of(writer, changes.glitch)?;
-    requirement_of(alloc, writer, row.required, row.found)
+    fall_of(alloc, writer, changes, row)
 }
 
 /// What is found by the levels, where that is asked for, and what follows it.

@@ -1,6 +1,6 @@
 //! The search for the worst delay, by any means.
 
-ghost use Rattle.std.specs.Prelude.{◌≡◌, true, min, max, ◌<◌, ◌≤◌, ◌+◌, ◌/◌, ℕ, length, IfOk, IfErr};
+ghost use Rattle.std.specs.Prelude.{◌≡◌, true, min, max, ◌<◌, ◌≤◌, ◌+◌, ◌/◌, ◌^◌, ℕ, length, IfOk, IfErr};
 ghost use Rattle.td_circuit.specs.Numbering.{setting};
 ghost use Rattle.td_search.specs.Answers.{IsAnswer, IsSearchFault, TimeNeedsStop};
 ghost use Rattle.td_search.specs.Problems.{problem_by};
@@ -16,7 +16,7 @@ use crate::found::{Found, is_answered};
 use crate::method::Method;
 use crate::question::Question;
 use crate::refuting::{Stepped, refuted_further};
-use crate::support::{Support, Treed};
+use crate::support::{Support, Treed, lower_steps};
 use std::alloc::Global;
 use std::sync::Wait;
 use std::thread::Threads;
@@ -40,13 +40,16 @@ const FIRST: Share = Share {
     gates: 60_000,
 };
 
-/// What it gives its second one, as `Lead` has it.
+/// How much work it gives its first search by spans, at most: most questions end within it.
+const QUICK: u64 = 8_000;
+
+/// What it gives its second tree, as `Lead` has it, after that.
 const SECOND: Share = Share {
     nodes: 8_000,
     gates: 4_000_000,
 };
 
-/// What it gives its last one, as `Lead` has it, after the search by spans.
+/// What it gives its last tree, as `Lead` has it, after a long search by spans.
 const LAST: Share = Share {
     nodes: 200_000,
     gates: 100_000_000,
@@ -54,9 +57,10 @@ const LAST: Share = Share {
 
 /// Searches for the worst delay of the admitted pairs of a circuit, by a method. The pairs are of
 /// the circuit's inputs. Where a moment is required, a search by spans ends once a pair is later, or
-/// none can be, and `Auto` ends with the search that says so. Trees have at most as many nodes as the budget of the effort says, and a
-/// search for a refutation ends after that many units of work. Once the stop is set, the search
-/// ends, and the answer says what is known by then. The watch gets the progress of a tree.
+/// none can be, and `Auto` ends with the search that says so. Trees have at most as many nodes as
+/// the budget of the effort says, and a search for a refutation ends after that many units of work.
+/// Once the stop is set, the search ends, and the answer says what is known by then. The watch gets
+/// the progress of a tree.
 ///
 /// # Errors
 ///
@@ -188,8 +192,8 @@ fn bounded<W: Watch, R: Threads + Wait + Sync>(
     Ok(Treed::of(found))
 }
 
-// Searches a tree by `Least`, then one by `Lead`, then for a refutation, and then a larger tree by
-// `Lead`, until one of them ends.
+// Searches a tree by `Least`, bounds the pins by edges, and goes on where that leaves the answer
+// open.
 fn by_all<W: Watch, R: Threads + Wait + Sync>(
     rt: &R,
     alloc: Global,
@@ -241,34 +245,85 @@ fn by_all<W: Watch, R: Threads + Wait + Sync>(
         answer: known,
         tree,
     };
+    let rest = with_nodes(limits, left);
+    Ok(further(rt, alloc, question, known, nodes, rest, watch))
+}
+
+// Goes on from what trees with some nodes came to: searches for a refutation with little work, then
+// a tree by `Lead`, then for a refutation with more work, and then a larger tree by `Lead`, until one
+// of them ends.
+fn further<W: Watch, R: Threads + Wait + Sync>(
+    rt: &R,
+    alloc: Global,
+    question: Question<'_>,
+    known: Treed,
+    nodes: u64,
+    limits: Limits<'_>,
+    watch: &mut W,
+) -> Found
+    requires some { 0 < nodes }
+    requires fits { nodes + limits.effort.budget < 2 ^ 64 }
+    requires held { length question.admit.now.held ≡ length question.circuit.now.netlist.inputs }
+    requires known { IsSoundAnswer (problem_by strategy.Least question.circuit.now question.admit.now) nodes known.answer }
+    requires text { CanBeWritten (problem_by strategy.Least question.circuit.now question.admit.now) known.answer }
+    requires tree { IsSupportOf (setting question.circuit.now) question.admit.now known.tree }
+    ensures answer { IsSoundAnswer (problem_by strategy.Least question.entry.circuit.now question.entry.admit.now) (nodes + limits.entry.effort.budget) result.answer }
+    ensures text { CanBeWritten (problem_by strategy.Least question.entry.circuit.now question.entry.admit.now) result.answer }
+    ensures high { high_of result.answer ≤ high_of known.answer }
+    ensures time { TimeNeedsStop limits.entry.stop.now.can_be_set result.answer }
+    ensures shown { IsSupport (setting question.entry.circuit.now) question.entry.admit.now result.support }
+    ensures reported { W.reported (problem_by strategy.Least question.entry.circuit.now question.entry.admit.now) watch.old watch.new }
+{
+    let Question {
+        circuit,
+        admit,
+        required,
+        ..
+    } = question;
+    let problem = Problem {
+        circuit,
+        admit,
+        strategy: Strategy::Least,
+    };
+    let Limits { effort, .. } = limits;
+    let budget = effort.budget;
+    let quick = QUICK.min(budget / 4);
+    let little = with_work(limits, quick, required);
+    let Treed { answer, tree } = known;
+    let soon = refuted_further(rt, alloc, &problem, answer, nodes, little);
+    let Stepped {
+        answer,
+        refuted: steps,
+    } = soon;
+    if !is_open(&answer) || is_answered(required, &answer) {
+        let support = Support { steps, tree };
+        return Found { answer, support };
+    }
+    let left = budget - quick;
     let more = nodes_of(circuit, SECOND, left / 2);
     let most = nodes_of(circuit, LAST, (left - more) / 2);
+    let known = Treed { answer, tree };
     let second = with_nodes(limits, more);
     let led = led_further(rt, alloc, circuit, admit, known, second, watch);
-    let Treed { answer: led, tree } = led;
-    if is_answered(required, &led) {
-        return Ok(Found::of(led, tree));
-    }
-    let work = left - more - most;
-    let further = with_work(limits, work, required);
-    let shown = refuted_further(rt, alloc, &problem, led, nodes + more, further);
-    let Stepped { answer, refuted } = shown;
-    if is_exact(&answer) || is_answered(required, &answer) {
-        let support = Support {
-            steps: refuted,
-            tree,
-        };
-        return Ok(Found { answer, support });
-    }
-    let last = with_nodes(limits, most);
-    let known = Treed { answer, tree };
-    let led = led_further(rt, alloc, circuit, admit, known, last, watch);
     let Treed { answer, tree } = led;
-    let support = Support {
-        steps: refuted,
-        tree,
-    };
-    Ok(Found { answer, support })
+    if is_answered(required, &answer) {
+        let support = Support { steps, tree };
+        return Found { answer, support };
+    }
+    let much = with_work(limits, left - more - most, required);
+    let shown = refuted_further(rt, alloc, &problem, answer, nodes + more, much);
+    let Stepped { answer, refuted } = shown;
+    let steps = lower_steps(steps, refuted);
+    if is_exact(&answer) || is_answered(required, &answer) {
+        let support = Support { steps, tree };
+        return Found { answer, support };
+    }
+    let known = Treed { answer, tree };
+    let last = with_nodes(limits, most);
+    let ended = led_further(rt, alloc, circuit, admit, known, last, watch);
+    let Treed { answer, tree } = ended;
+    let support = Support { steps, tree };
+    Found { answer, support }
 }
 
 // The same limits with fewer nodes.

@@ -4,6 +4,7 @@ ghost use Rattle.std.specs.Prelude.{◌≡◌, ◌≤◌, None, IfSome};
 ghost use Rattle.td_circuit.specs.Settings.{Setting};
 ghost use Rattle.td_domain.specs.Admits.{Admitted};
 ghost use Rattle.td_refutation.specs.Asking.{Asking};
+ghost use Rattle.td_refute.specs.Answers.{IsShown};
 ghost use Rattle.td_refute.specs.Kept.{IsShownAmong};
 ghost use Rattle.td_search.specs.Opened.{high_of, ShowsAnswer, ShowsHigh};
 ghost use Rattle.td_search.specs.Problems.{Problem as Asked};
@@ -105,4 +106,20 @@ pub(crate) fn earlier_tree(
         return Some(tree);
     }
     first
+}
+
+/// The steps of two searches that show the lower bound.
+pub(crate) fn lower_steps(first: Option<Refuted>, second: Option<Refuted>) -> Option<Refuted>
+    ensures { (given : Setting) (admit : Admitted) → IfSome first (IsShown given admit) → IfSome second (IsShown given admit) → IfSome result (IsShown given admit) }
+{
+    let Some(one) = first else {
+        return second;
+    };
+    let Some(other) = second else {
+        return Some(one);
+    };
+    if one.bound < other.bound {
+        return Some(one);
+    }
+    Some(other)
 }
