@@ -137,6 +137,8 @@ fn joins_an_open_part_to_an_exact_one(rt: HostRuntime) -> Result<(), Fail> {
     let exact = b"unit 1 ns\ndefaulted 0\nexact 5\nfrom 10\nto 00\nnodes 9\nrequired 4 violated\n";
     let both = joined_by(alloc, &["p0", "p1"], true, flipped(&[], 2), Some(4))?;
     assert!(rt; says(&rt, alloc, both, &texts, Status::Violated, exact)?);
+    Ok(())
+}
 
 /// The table of the outputs, of which the first one changes last at moment 3 and the second one at
 /// moment 5, within so many nodes, where this moment is required.
