@@ -117,13 +117,14 @@ impl<'a> Search<'a> {
 
     // A move at some input that matters: with `least` 1 one bit flips at least.
     fn draw_move(&mut self, least: usize) -> Move {
-        let place = self.draw(self.moving.len());
+        let (inputs, moving) = (self.network.inputs(), self.moving.len());
+        let place = self.draw(moving);
         let flips = least.saturating_add(self.draw(4usize.saturating_sub(least)));
         Move {
             input: self.moving_input(place),
             first: flips % 2 == 1,
             second: flips / 2 % 2 == 1,
-            other: self.draw(self.network.inputs()),
+            other: self.draw(inputs),
         }
     }
 
