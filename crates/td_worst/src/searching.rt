@@ -15,7 +15,7 @@ use crate::edge_bound::bounded_by_edges;
 use crate::found::{Found, is_answered};
 use crate::method::Method;
 use crate::question::Question;
-use crate::refuting::{Stepped, refuted_further};
+use crate::refuting::refuted_further;
 use crate::support::{Support, Treed};
 use std::alloc::Global;
 use std::sync::Wait;
@@ -101,8 +101,8 @@ pub fn worst_until<W: Watch, R: Threads + Wait + Sync>(
                 strategy: method.strategy(),
             };
             let ended = search(rt, alloc, &problem, &Own, limits, watch)?;
-            let Treed { answer, tree } = Treed::of(ended);
-            Ok(Found::of(answer, tree))
+            let found = Treed::of(ended);
+            Ok(Found::of(found.answer, found.tree))
         }
         Method::Refute => by_refutation(rt, alloc, question, limits, watch),
         Method::Auto => by_all(rt, alloc, question, limits, watch),
@@ -135,31 +135,29 @@ fn by_refutation<W: Watch, R: Threads + Wait + Sync>(
     let Limits { effort, .. } = limits;
     let budget = effort.budget;
     let none = with_nodes(limits, 0);
-    let found = bounded(rt, alloc, circuit, admit, none, watch)?;
-    let Treed {
-        answer: known,
-        tree,
-    } = found;
+    let begun = bounded(rt, alloc, circuit, admit, none, watch)?;
     if budget == 0 {
-        return Ok(Found::of(known, tree));
+        return Ok(Found::of(begun.answer, begun.tree));
     }
     let problem = Problem {
         circuit,
         admit,
         strategy: Strategy::Lead,
     };
-    let known = bounded_by_edges(alloc, &problem, known, budget);
+    let known = bounded_by_edges(alloc, &problem, begun.answer, budget);
     if !is_open(&known) || is_answered(required, &known) {
-        return Ok(Found::of(known, tree));
+        return Ok(Found::of(known, begun.tree));
     }
     let further = with_work(limits, budget, required);
     let shown = refuted_further(rt, alloc, &problem, known, budget, further);
-    let Stepped { answer, refuted } = shown;
     let support = Support {
-        steps: refuted,
-        tree,
+        steps: shown.refuted,
+        tree: begun.tree,
     };
-    Ok(Found { answer, support })
+    Ok(Found {
+        answer: shown.answer,
+        support,
+    })
 }
 
 // What a tree by `Least` comes to, which climbs to no pair.
@@ -224,51 +222,54 @@ fn by_all<W: Watch, R: Threads + Wait + Sync>(
     let budget = effort.budget;
     let nodes = nodes_of(circuit, FIRST, budget);
     let first = with_nodes(limits, nodes);
-    let found = search(rt, alloc, &problem, &Own, first, watch)?;
-    let Treed {
-        answer: known,
-        tree,
-    } = Treed::of(found);
+    let ended = search(rt, alloc, &problem, &Own, first, watch)?;
+    let begun = Treed::of(ended);
     let left = budget - nodes;
     if left == 0 {
-        return Ok(Found::of(known, tree));
+        return Ok(Found::of(begun.answer, begun.tree));
     }
-    let known = bounded_by_edges(alloc, &problem, known, nodes);
+    let known = bounded_by_edges(alloc, &problem, begun.answer, nodes);
     if !is_open(&known) || is_answered(required, &known) {
-        return Ok(Found::of(known, tree));
+        return Ok(Found::of(known, begun.tree));
     }
-    let known = Treed {
+    let edged = Treed {
         answer: known,
-        tree,
+        tree: begun.tree,
     };
     let more = nodes_of(circuit, SECOND, left / 2);
     let most = nodes_of(circuit, LAST, (left - more) / 2);
     let second = with_nodes(limits, more);
-    let led = led_further(rt, alloc, circuit, admit, known, second, watch);
-    let Treed { answer: led, tree } = led;
-    if is_answered(required, &led) {
-        return Ok(Found::of(led, tree));
+    let led = led_further(rt, alloc, circuit, admit, edged, second, watch);
+    if is_answered(required, &led.answer) {
+        return Ok(Found::of(led.answer, led.tree));
     }
     let work = left - more - most;
     let further = with_work(limits, work, required);
-    let shown = refuted_further(rt, alloc, &problem, led, nodes + more, further);
-    let Stepped { answer, refuted } = shown;
-    if is_exact(&answer) || is_answered(required, &answer) {
+    let shown = refuted_further(rt, alloc, &problem, led.answer, nodes + more, further);
+    if is_exact(&shown.answer) || is_answered(required, &shown.answer) {
         let support = Support {
-            steps: refuted,
-            tree,
+            steps: shown.refuted,
+            tree: led.tree,
         };
-        return Ok(Found { answer, support });
+        return Ok(Found {
+            answer: shown.answer,
+            support,
+        });
     }
-    let last = with_nodes(limits, most);
-    let known = Treed { answer, tree };
-    let led = led_further(rt, alloc, circuit, admit, known, last, watch);
-    let Treed { answer, tree } = led;
-    let support = Support {
-        steps: refuted,
-        tree,
+    let stepped = Treed {
+        answer: shown.answer,
+        tree: led.tree,
     };
-    Ok(Found { answer, support })
+    let last = with_nodes(limits, most);
+    let again = led_further(rt, alloc, circuit, admit, stepped, last, watch);
+    let support = Support {
+        steps: shown.refuted,
+        tree: again.tree,
+    };
+    Ok(Found {
+        answer: again.answer,
+        support,
+    })
 }
 
 // The same limits with fewer nodes.
