@@ -15,7 +15,7 @@ use crate::edge_bound::bounded_by_edges;
 use crate::found::{Found, is_answered};
 use crate::method::Method;
 use crate::question::Question;
-use crate::refuting::{Stepped, refuted_further};
+use crate::refuting::refuted_further;
 use crate::support::{Support, Treed, lower_steps};
 use std::alloc::Global;
 use std::sync::Wait;
@@ -105,8 +105,8 @@ pub fn worst_until<W: Watch, R: Threads + Wait + Sync>(
                 strategy: method.strategy(),
             };
             let ended = search(rt, alloc, &problem, &Own, limits, watch)?;
-            let Treed { answer, tree } = Treed::of(ended);
-            Ok(Found::of(answer, tree))
+            let found = Treed::of(ended);
+            Ok(Found::of(found.answer, found.tree))
         }
         Method::Refute => by_refutation(rt, alloc, question, limits, watch),
         Method::Auto => by_all(rt, alloc, question, limits, watch),
@@ -139,31 +139,29 @@ fn by_refutation<W: Watch, R: Threads + Wait + Sync>(
     let Limits { effort, .. } = limits;
     let budget = effort.budget;
     let none = with_nodes(limits, 0);
-    let found = bounded(rt, alloc, circuit, admit, none, watch)?;
-    let Treed {
-        answer: known,
-        tree,
-    } = found;
+    let begun = bounded(rt, alloc, circuit, admit, none, watch)?;
     if budget == 0 {
-        return Ok(Found::of(known, tree));
+        return Ok(Found::of(begun.answer, begun.tree));
     }
     let problem = Problem {
         circuit,
         admit,
         strategy: Strategy::Lead,
     };
-    let known = bounded_by_edges(alloc, &problem, known, budget);
+    let known = bounded_by_edges(alloc, &problem, begun.answer, budget);
     if !is_open(&known) || is_answered(required, &known) {
-        return Ok(Found::of(known, tree));
+        return Ok(Found::of(known, begun.tree));
     }
     let further = with_work(limits, budget, required);
     let shown = refuted_further(rt, alloc, &problem, known, budget, further);
-    let Stepped { answer, refuted } = shown;
     let support = Support {
-        steps: refuted,
-        tree,
+        steps: shown.refuted,
+        tree: begun.tree,
     };
-    Ok(Found { answer, support })
+    Ok(Found {
+        answer: shown.answer,
+        support,
+    })
 }
 
 // What a tree by `Least` comes to, which climbs to no pair.
@@ -228,25 +226,22 @@ fn by_all<W: Watch, R: Threads + Wait + Sync>(
     let budget = effort.budget;
     let nodes = nodes_of(circuit, FIRST, budget);
     let first = with_nodes(limits, nodes);
-    let found = search(rt, alloc, &problem, &Own, first, watch)?;
-    let Treed {
-        answer: known,
-        tree,
-    } = Treed::of(found);
+    let ended = search(rt, alloc, &problem, &Own, first, watch)?;
+    let begun = Treed::of(ended);
     let left = budget - nodes;
     if left == 0 {
-        return Ok(Found::of(known, tree));
+        return Ok(Found::of(begun.answer, begun.tree));
     }
-    let known = bounded_by_edges(alloc, &problem, known, nodes);
+    let known = bounded_by_edges(alloc, &problem, begun.answer, nodes);
     if !is_open(&known) || is_answered(required, &known) {
-        return Ok(Found::of(known, tree));
+        return Ok(Found::of(known, begun.tree));
     }
-    let known = Treed {
+    let edged = Treed {
         answer: known,
-        tree,
+        tree: begun.tree,
     };
     let rest = with_nodes(limits, left);
-    Ok(further(rt, alloc, question, known, nodes, rest, watch))
+    Ok(further(rt, alloc, question, edged, nodes, rest, watch))
 }
 
 // Goes on from what trees with some nodes came to: searches for a refutation with little work, then
@@ -289,41 +284,63 @@ fn further<W: Watch, R: Threads + Wait + Sync>(
     let budget = effort.budget;
     let quick = QUICK.min(budget / 4);
     let little = with_work(limits, quick, required);
-    let Treed { answer, tree } = known;
-    let soon = refuted_further(rt, alloc, &problem, answer, nodes, little);
-    let Stepped {
-        answer,
-        refuted: steps,
-    } = soon;
-    if !is_open(&answer) || is_answered(required, &answer) {
-        let support = Support { steps, tree };
-        return Found { answer, support };
+    let soon = refuted_further(rt, alloc, &problem, known.answer, nodes, little);
+    if !is_open(&soon.answer) || is_answered(required, &soon.answer) {
+        let support = Support {
+            steps: soon.refuted,
+            tree: known.tree,
+        };
+        return Found {
+            answer: soon.answer,
+            support,
+        };
     }
     let left = budget - quick;
     let more = nodes_of(circuit, SECOND, left / 2);
     let most = nodes_of(circuit, LAST, (left - more) / 2);
-    let known = Treed { answer, tree };
+    let stepped = Treed {
+        answer: soon.answer,
+        tree: known.tree,
+    };
     let second = with_nodes(limits, more);
-    let led = led_further(rt, alloc, circuit, admit, known, second, watch);
-    let Treed { answer, tree } = led;
-    if is_answered(required, &answer) {
-        let support = Support { steps, tree };
-        return Found { answer, support };
+    let led = led_further(rt, alloc, circuit, admit, stepped, second, watch);
+    if is_answered(required, &led.answer) {
+        let support = Support {
+            steps: soon.refuted,
+            tree: led.tree,
+        };
+        return Found {
+            answer: led.answer,
+            support,
+        };
     }
     let much = with_work(limits, left - more - most, required);
-    let shown = refuted_further(rt, alloc, &problem, answer, nodes + more, much);
-    let Stepped { answer, refuted } = shown;
-    let steps = lower_steps(steps, refuted);
-    if is_exact(&answer) || is_answered(required, &answer) {
-        let support = Support { steps, tree };
-        return Found { answer, support };
+    let shown = refuted_further(rt, alloc, &problem, led.answer, nodes + more, much);
+    let steps = lower_steps(soon.refuted, shown.refuted);
+    if is_exact(&shown.answer) || is_answered(required, &shown.answer) {
+        let support = Support {
+            steps,
+            tree: led.tree,
+        };
+        return Found {
+            answer: shown.answer,
+            support,
+        };
     }
-    let known = Treed { answer, tree };
+    let again = Treed {
+        answer: shown.answer,
+        tree: led.tree,
+    };
     let last = with_nodes(limits, most);
-    let ended = led_further(rt, alloc, circuit, admit, known, last, watch);
-    let Treed { answer, tree } = ended;
-    let support = Support { steps, tree };
-    Found { answer, support }
+    let ended = led_further(rt, alloc, circuit, admit, again, last, watch);
+    let support = Support {
+        steps,
+        tree: ended.tree,
+    };
+    Found {
+        answer: ended.answer,
+        support,
+    }
 }
 
 // The same limits with fewer nodes.

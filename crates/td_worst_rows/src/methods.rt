@@ -18,7 +18,7 @@ use td_search::{Answer, Cause};
 use td_worst::{Method, Question, TimedEffort, WorstFault, worst};
 
 /// A pulse of one step that the second gate swallows. Edges bound it by 3.
-const PULSE: &str =
+pub const PULSE: &str =
     "module m(a, y); input a; output y; not #1 n(b, a); and #2 g(y, a, b); endmodule";
 
 /// A way that no pair can go along: its last gate is open only while its first one is closed.
@@ -26,11 +26,11 @@ pub const FALSE_WAY: &str = "module m(a, b, s, y); input a, b, s; output y; not 
 and #5 g0(c, a, s); or #1 g1(d, c, b); and #7 g2(e, d, t); or #1 g3(y, e, s); endmodule";
 
 /// A signal that meets itself again.
-const RECONVERGENT: &str = "module t (a, b, y); input a, b; output y;
+pub const RECONVERGENT: &str = "module t (a, b, y); input a, b; output y;
     buf #1 p1(p,b); buf #1 p2(q,b); xor #3 g(y,a,p,q); endmodule";
 
 /// Two gates that are slow one way each: a change passes 6 later, by arrival windows alone 10.
-const INVERTERS: &str =
+pub const INVERTERS: &str =
     "module m(a, y); input a; output y; not #(1,5) n(b, a); not #(1,5) g(y, b); endmodule";
 
 /// The circuit of a netlist. The error is out of memory, or a text that is refused.

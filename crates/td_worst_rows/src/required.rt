@@ -11,7 +11,8 @@ use td_lead::Timed;
 use td_pool::{Effort, Unwatched};
 use td_search::Answer;
 use td_worst::{
-    Found, KeptAnswer, KeptQuestion, Method, Question, TimedEffort, tree_of_high, worst, worst_kept,
+    Found, KeptAnswer, KeptQuestion, Method, Question, Support, TimedEffort, tree_of_high, worst,
+    worst_kept,
 };
 
 /// One worker, and more work than these questions take.
@@ -70,7 +71,8 @@ fn shown<R: Threads + Wait + Clock + Sync + Abort>(
                 ..
             },
         ) => {
-            let tree = tree_of_high(alloc, question, &best, high, &refuted);
+            let support = Support::by_steps(refuted);
+            let tree = tree_of_high(alloc, question, &best, high, support);
             let nodes = tree.map_or(0, |tree| tree.nodes().len());
             let Timed { time, .. } = best;
             Ok((time, high, nodes))

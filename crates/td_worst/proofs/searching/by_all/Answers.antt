@@ -14,7 +14,7 @@ returns-clause-answer g c =
 
 pub returns-then-not-is_open-clause-time : goal.returns-then-not-is_open-clause-time
 returns-then-not-is_open-clause-time g c =
-    rw c.of-then-not-is_open.ensures.answer (c.bounded_by_edges-known.ensures.time c.args.limits.stop.now.can_be_set (rw c.with_nodes-first.ensures.stop at c.in_ok-found.ensures.time))
+    rw c.of-then-not-is_open.ensures.answer (c.bounded_by_edges-known.ensures.time c.args.limits.stop.now.can_be_set (rw c.with_nodes-first.ensures.stop at c.in_ok-ended.ensures.time))
 
 pub returns-clause-edges : goal.returns-clause-edges
 returns-clause-edges g c = λ more.

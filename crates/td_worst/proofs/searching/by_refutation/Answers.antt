@@ -6,7 +6,7 @@ use Rattle.td_worst.proofs.searching.by_refutation.Goals as goal
 
 pub returns-then-not-is_open-clause-time : goal.returns-then-not-is_open-clause-time
 returns-then-not-is_open-clause-time g c =
-    rw c.of-then-not-is_open.ensures.answer (c.bounded_by_edges-known.ensures.time c.args.limits.stop.now.can_be_set (rw c.with_nodes-none.ensures.stop at c.in_ok-known.ensures.time))
+    rw c.of-then-not-is_open.ensures.answer (c.bounded_by_edges-known.ensures.time c.args.limits.stop.now.can_be_set (rw c.with_nodes-none.ensures.stop at c.in_ok-begun.ensures.time))
 
 pub returns-clause-edges : goal.returns-clause-edges
 returns-clause-edges g c = λ some.
