@@ -10,7 +10,8 @@ submits no part. Then the same with an array of at most 6 tasks, as where there 
 a site's MaxArraySize.
 
 Before all that, submit.sh runs with each option of `worst` that says what is asked, of
-examples/c17.v, with a stand-in for Slurm that runs each job at once.
+examples/c17.v, with a stand-in for Slurm that runs each job at once; and with parts that are cut
+short and have certificates, which are joined, of examples/adder_8.v.
 
 The YAML of docs/MANY-MACHINES.md has to parse, and the command in it has to search its part under
 `sh`. Where Slurm, munge or a reader of YAML isn't installed, it says so.
@@ -36,6 +37,8 @@ NETLIST = os.path.join(places.TOP, "examples", "mult_8.v")
 SUBMIT = os.path.join(places.TOP, "examples", "slurm", "submit.sh")
 PAGE = os.path.join(places.TOP, "docs", "MANY-MACHINES.md")
 PARTS = 16
+# What cuts each part short.
+SHORT = ["--strategy", "least", "--budget", "0"]
 # The daemons and the client commands stand here too.
 os.environ["PATH"] += ":/usr/sbin:/sbin"
 NEEDS = ("munged", "mungekey", "slurmctld", "slurmd", "sbatch", "squeue", "scontrol")
@@ -309,6 +312,14 @@ def asked(tested):
         log = read(work, "join.log")
         ends = ended.status, f"accepted {time}" in log.splitlines()
         tested.expect(f"submit.sh with {words}: {ended.err}{log}", (0, True), ends, "asked")
+    work = os.path.join(tested.folder, "cut-short")
+    os.mkdir(work)
+    words = [*SHORT, "--cert-between", "--required", "2"]
+    run([SUBMIT, places.example("adder_8.v"), "4", *words], work, env=environment)
+    log = read(work, "join.log")
+    figures = re.search(r"^unchecked (between \d+ \d+)$", log, re.M)
+    ends = figures and f"accepted {figures[1]}" in log, "required 2 violated\n" in log
+    tested.expect(f"submit.sh with {words}: {log}", (True, True), ends, "cut short")
 
 
 def yaml_reader():

@@ -1,5 +1,5 @@
 -- The moments that a whole claims are the greatest of its parts', in whatever order they come.
-use Rattle.std.proofs.Common.{◌≡◌, ◌<◌, ◌≤◌, ◌+◌, ◌×◌, ℕ, List, Option, Some, None, length, take, get_or, refl, sym, ap, subst, ◌∙◌, arith}
+use Rattle.std.proofs.Common.{◌≡◌, ◌<◌, ◌≤◌, ◌+◌, ℕ, List, Option, Some, None, length, take, get_or, refl, sym, ap, subst, ◌∙◌, arith}
 use Rattle.std.specs.Prelude.{All, Contains, slice_get}
 use Rattle.std.specs.List.Sorted.{IsPermutation}
 use Rattle.td_gates.proofs.Places.{slice_get-get, get-slice_get, slice_get-Contains}
@@ -55,7 +55,7 @@ one_more P certificates place x less is has before = All-more P certificates pla
 module _ (moment : Certificate → Option ℕ) where
   -- the next one is greater
   pub newer : (certificates : List Certificate) (place old next : ℕ) (x y : Certificate) → place < length certificates → x ≡ get_or certificates place x
-      → old < length certificates → y ≡ get_or certificates old y → IsNotAbove (moment (get_or certificates old y)) (moment x)
+      → old < length certificates → y ≡ get_or certificates old y → IsNotAbove (moment y) (moment x)
       → ((w : Certificate) → slice_get certificates old ≡ Some w → All (λ c. IsNotAbove (moment c) (moment w)) (take place certificates)) → next ≡ place
       → (w : Certificate) → slice_get certificates next ≡ Some w → All (λ c. IsNotAbove (moment c) (moment w)) (take (place + 1) certificates)
   newer certificates place old next x y less is within was greater before now w stands =
@@ -63,21 +63,20 @@ module _ (moment : Certificate → Option ℕ) where
       let same : x ≡ w = is ∙ slice_get-get certificates place w x here in
       let all = before y (get-slice_get certificates old y y within (sym was)) in
       let more : IsNotAbove (moment x) (moment w) = subst (λ (c : Certificate). IsNotAbove (moment x) (moment c)) same (as_high (moment x)) in
-      let lower : IsNotAbove (moment y) (moment x) = subst (λ (c : Certificate). IsNotAbove (moment c) (moment x)) (sym was) greater in
-      let least : IsNotAbove (moment y) (moment w) = subst (λ (c : Certificate). IsNotAbove (moment y) (moment c)) same lower in
+      let least : IsNotAbove (moment y) (moment w) = subst (λ (c : Certificate). IsNotAbove (moment y) (moment c)) same greater in
       one_more (λ c. IsNotAbove (moment c) (moment w)) certificates place x less is more
       (All-weaker (λ c. IsNotAbove (moment c) (moment y)) (λ c. IsNotAbove (moment c) (moment w)) (λ c h. not_above_through (moment c) (moment y) (moment w) h least) (take place certificates) all)
 
   -- it isn't
   pub older : (certificates : List Certificate) (place old next : ℕ) (x y : Certificate) → place < length certificates → x ≡ get_or certificates place x
-      → y ≡ get_or certificates old y → IsNotAbove (moment x) (moment (get_or certificates old y))
+      → y ≡ get_or certificates old y → IsNotAbove (moment x) (moment y)
       → ((w : Certificate) → slice_get certificates old ≡ Some w → All (λ c. IsNotAbove (moment c) (moment w)) (take place certificates)) → next ≡ old
       → (w : Certificate) → slice_get certificates next ≡ Some w → All (λ c. IsNotAbove (moment c) (moment w)) (take (place + 1) certificates)
   older certificates place old next x y less is was few before now w stands =
       let here : slice_get certificates old ≡ Some w = subst (λ (n : ℕ). slice_get certificates n ≡ Some w) now stands in
       let same : y ≡ w = was ∙ slice_get-get certificates old w y here in
       one_more (λ c. IsNotAbove (moment c) (moment w)) certificates place x less is
-      (subst (λ (c : Certificate). IsNotAbove (moment x) (moment c)) same (subst (λ (c : Certificate). IsNotAbove (moment x) (moment c)) (sym was) few)) (before w here)
+      (subst (λ (c : Certificate). IsNotAbove (moment x) (moment c)) same few) (before w here)
 
 -- ---- the claim with the other high
 
