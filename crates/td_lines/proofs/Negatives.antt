@@ -2,7 +2,7 @@
 use Rattle.std.proofs.Common.{◌≡◌, ℕ, zero, suc, ◌^◌, ◌<◌, false, cond, ◌==◌, List, [], ◌∷◌, drop, get_or, Some, option_and_then, decimal, ap, subst, arith}
 use Rattle.std.proofs.lemmas.Bool.{ne_eqb}
 use Rattle.std.proofs.lemmas.Fmt.{decimal_digit, first_decimal}
-use Rattle.json.specs.Word.{head, after_minus, after_whole, after_fraction, after_exponent, after_number}
+use Rattle.json.specs.Word.{head, after_whole, after_fraction, after_exponent, after_number}
 use Rattle.json.specs.Print.{IsNumber}
 use Rattle.json.proofs.Printed.Decimals.{IsNumber-decimal}
 

@@ -1,3 +1,4 @@
+use Rattle.std.proofs.Common.{rules}
 use Rattle.td_lines.proofs.Negatives.{negative_number}
 use Rattle.td_lines.proofs.slacks.behind_minus.Goals as goal
 
