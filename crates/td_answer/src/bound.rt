@@ -186,19 +186,19 @@ fn push_named(
 
 /// The report of the bounds of a cube, and the least of them.
 #[derive(Drop)]
-struct Bounded {
+struct Reported {
     report: Report,
     least: Option<u64>,
 }
 
-fn bounded(
+fn report_of(
     alloc: Global,
     circuit: &Circuit,
     cube: &Cube,
     asked: &Bound<'_>,
-) -> Result<Bounded, AllocError>
+) -> Result<Reported, AllocError>
     requires { length cube.now ≡ 2 * length circuit.now.netlist.inputs }
-    ensures { IfOk result (λ bounded. ReportsBounds asked.now (setting circuit.now) cube.now bounded.least bounded.report) }
+    ensures { IfOk result (λ reported. ReportsBounds asked.now (setting circuit.now) cube.now reported.least reported.report) }
 {
     let mut report = begun(alloc, circuit)?;
     let bounds = bounds_of(alloc, circuit, cube)?;
@@ -215,7 +215,7 @@ fn bounded(
     push_earliest(alloc, &mut report, circuit, cube, asked.earliest)?;
     let least = least_of(bounds, edges);
     push_met(&mut report, asked.required, least)?;
-    Ok(Bounded { report, least })
+    Ok(Reported { report, least })
 }
 
 /// The question of a request: its words are about inputs alone.
@@ -244,7 +244,7 @@ pub(crate) fn bounds<'n, 'w>(
 {
     let question = question_in(asked);
     let about = question_of(alloc, text, reading, &question)?;
-    let Bounded { report, least } = bounded(alloc, &about.circuit, about.admit.pins(), asked)?;
+    let Reported { report, least } = report_of(alloc, &about.circuit, about.admit.pins(), asked)?;
     Ok(Outcome {
         report,
         certificate: None,

@@ -4,8 +4,8 @@ use Rattle.td_question.proofs.Questions.{asked_held}
 use Rattle.td_answer.proofs.LeastBound.{met_by}
 use Rattle.td_answer.proofs.bound.bounds.Goals as goal
 
-pub bounded-requires : goal.bounded-requires
-bounded-requires c =
+pub report_of-requires : goal.report_of-requires
+report_of-requires c =
     let held = asked_held c.args.text.now c.args.reading.now c.question_in-question.result (setting c.in_ok-about.about.circuit) c.in_ok-about.about.admit c.in_ok-about.ensures.asked in
     rw c.pins.ensures.pins (c.pins.ensures.fit ∙ ap (λ n. 2 * n) held)
 
