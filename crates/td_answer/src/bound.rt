@@ -6,7 +6,7 @@ ghost use Rattle.td_circuit.specs.Numbering.{setting};
 ghost use Rattle.td_certificate.specs.declared.tree.BoundedBy.TheVariants as by;
 ghost use Rattle.td_certificate.specs.Accepts.{IsBoundBy};
 ghost use Rattle.td_answer.specs.Additions.{AddsLines};
-ghost use Rattle.td_answer.specs.Bounds.{IsSoundBound, bound_lines, AreEdges, HasEdges, asks_edges, least_of, TellsBound, ReportsBounds, question_in, IsTrueBound, IsRefusedBound};
+ghost use Rattle.td_answer.specs.Bounds.{IsSoundBound, bound_lines, AreEdges, HasEdges, asks_edges, least_of, TellsBound, ReportsBounds, IsTrueBound, IsRefusedBound};
 ghost use Rattle.td_answer.specs.BoundNets.{IsBoundNet, IsFirstWith};
 ghost use Rattle.td_answer.specs.Writing.{CanBeWritten};
 
@@ -218,18 +218,6 @@ fn report_of(
     Ok(Reported { report, least })
 }
 
-/// The question of a request: its words are about inputs alone.
-fn question_in<'w>(asked: &Bound<'w>) -> Question<'w>
-    ensures { result ≡ question_in asked.now }
-{
-    Question {
-        inputs: asked.inputs,
-        flips: asked.flips,
-        keep_file: None,
-        keep_text: None,
-    }
-}
-
 /// The bounds of the delays of the pairs that words admit, which are those of their pins.
 pub(crate) fn bounds<'n, 'w>(
     alloc: Global,
@@ -242,7 +230,12 @@ pub(crate) fn bounds<'n, 'w>(
     ensures written { IfOk result CanBeWritten }
     ensures refusal { IfErr result (IsRefusedBound text.now reading.now asked.now) }
 {
-    let question = question_in(asked);
+    let question = Question {
+        inputs: asked.inputs,
+        flips: asked.flips,
+        keep_file: None,
+        keep_text: None,
+    };
     let about = question_of(alloc, text, reading, &question)?;
     let Reported { report, least } = report_of(alloc, &about.circuit, about.admit.pins(), asked)?;
     Ok(Outcome {
