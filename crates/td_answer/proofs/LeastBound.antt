@@ -1,5 +1,5 @@
 -- The least of bounds is a bound, and meets a required moment.
-use Rattle.std.proofs.Common.{◌≡◌, ◌∙◌, ℕ, ◌≤◌, Bool, true, false, cond, List, refl, sym, arith}
+use Rattle.std.proofs.Common.{◌≡◌, ℕ, Bool, true, false, cond, List, refl, arith}
 use Rattle.std.proofs.lemmas.Bool.{leb-true}
 use Rattle.std.specs.Prelude.{Option, Some, None, nat_le}
 use Rattle.td_gates.proofs.Places.{some-same}
@@ -12,7 +12,7 @@ use Rattle.td_spans.specs.Pieces.{nearest}
 use Rattle.td_request.specs.declared.request.Bound.{Bound}
 use Rattle.td_lines.specs.declared.line.Line.{Line}
 use Rattle.td_lines.specs.declared.line.Standing.TheVariants.{Met, Open}
-use Rattle.td_answer.specs.Bounds.{HasEdges, ReportsBounds, asks_edges, least_of}
+use Rattle.td_answer.specs.Bounds.{HasEdges, ReportsBounds, asks_edges}
 use Rattle.td_answer.specs.Requirements.{bound_standing}
 
 module _ (setting : Setting) (cube : List Trit) where

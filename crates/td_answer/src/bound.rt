@@ -6,7 +6,7 @@ ghost use Rattle.td_circuit.specs.Numbering.{setting};
 ghost use Rattle.td_certificate.specs.declared.tree.BoundedBy.TheVariants as by;
 ghost use Rattle.td_certificate.specs.Accepts.{IsBoundBy};
 ghost use Rattle.td_answer.specs.Additions.{AddsLines};
-ghost use Rattle.td_answer.specs.Bounds.{IsSoundBound, bound_lines, AreEdges, HasEdges, asks_edges, least_of, TellsBound, ReportsBounds, question_in, IsTrueBound, IsRefusedBound};
+ghost use Rattle.td_answer.specs.Bounds.{IsSoundBound, bound_lines, AreEdges, HasEdges, asks_edges, least_of, TellsBound, ReportsBounds, IsTrueBound, IsRefusedBound};
 ghost use Rattle.td_answer.specs.BoundNets.{IsBoundNet, IsFirstWith};
 ghost use Rattle.td_answer.specs.Writing.{CanBeWritten};
 
@@ -186,19 +186,19 @@ fn push_named(
 
 /// The report of the bounds of a cube, and the least of them.
 #[derive(Drop)]
-struct Bounded {
+struct Reported {
     report: Report,
     least: Option<u64>,
 }
 
-fn bounded(
+fn report_of(
     alloc: Global,
     circuit: &Circuit,
     cube: &Cube,
     asked: &Bound<'_>,
-) -> Result<Bounded, AllocError>
+) -> Result<Reported, AllocError>
     requires { length cube.now ≡ 2 * length circuit.now.netlist.inputs }
-    ensures { IfOk result (λ bounded. ReportsBounds asked.now (setting circuit.now) cube.now bounded.least bounded.report) }
+    ensures { IfOk result (λ reported. ReportsBounds asked.now (setting circuit.now) cube.now reported.least reported.report) }
 {
     let mut report = begun(alloc, circuit)?;
     let bounds = bounds_of(alloc, circuit, cube)?;
@@ -215,19 +215,7 @@ fn bounded(
     push_earliest(alloc, &mut report, circuit, cube, asked.earliest)?;
     let least = least_of(bounds, edges);
     push_met(&mut report, asked.required, least)?;
-    Ok(Bounded { report, least })
-}
-
-/// The question of a request: its words are about inputs alone.
-fn question_in<'w>(asked: &Bound<'w>) -> Question<'w>
-    ensures { result ≡ question_in asked.now }
-{
-    Question {
-        inputs: asked.inputs,
-        flips: asked.flips,
-        keep_file: None,
-        keep_text: None,
-    }
+    Ok(Reported { report, least })
 }
 
 /// The bounds of the delays of the pairs that words admit, which are those of their pins.
@@ -242,9 +230,14 @@ pub(crate) fn bounds<'n, 'w>(
     ensures written { IfOk result CanBeWritten }
     ensures refusal { IfErr result (IsRefusedBound text.now reading.now asked.now) }
 {
-    let question = question_in(asked);
+    let question = Question {
+        inputs: asked.inputs,
+        flips: asked.flips,
+        keep_file: None,
+        keep_text: None,
+    };
     let about = question_of(alloc, text, reading, &question)?;
-    let Bounded { report, least } = bounded(alloc, &about.circuit, about.admit.pins(), asked)?;
+    let Reported { report, least } = report_of(alloc, &about.circuit, about.admit.pins(), asked)?;
     Ok(Outcome {
         report,
         certificate: None,
