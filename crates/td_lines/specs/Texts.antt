@@ -105,8 +105,9 @@ figure_key figure.Earliest = codes "earliest"
 abbrev pub bound_line : Figure → Option ℕ → List ℕ
 bound_line by bound = figure_key by ++ codes " " ++ bound_text bound ++ newline
 
-abbrev pub between_line : ℕ → ℕ → List ℕ
-between_line low high = codes "between " ++ decimal low ++ codes " " ++ decimal high ++ newline
+-- what says a lower and an upper figure, after these words
+abbrev pub figures_line : List ℕ → ℕ → ℕ → List ℕ
+figures_line front low high = front ++ decimal low ++ codes " " ++ decimal high ++ newline
 
 abbrev pub cause_line : Cause → List ℕ
 cause_line cause.Budget = codes "cause budget" ++ newline
@@ -221,15 +222,6 @@ place_text (Some line) = codes " line " ++ decimal line
 abbrev pub refused_line : ℕ → List ℕ → Option ℕ → List ℕ
 refused_line number name line = codes "refused " ++ decimal number ++ codes " " ++ name ++ place_text line ++ newline
 
--- the time of a certificate that leaves the worst delay open, and the moment after which no admitted
--- pair changes an output
-abbrev pub accepted_line : ℕ → ℕ → List ℕ
-accepted_line time high = codes "accepted between " ++ decimal time ++ codes " " ++ decimal high ++ newline
-
--- the same of certificates that are joined and weren't checked
-abbrev pub unchecked_line : ℕ → ℕ → List ℕ
-unchecked_line time high = codes "unchecked between " ++ decimal time ++ codes " " ++ decimal high ++ newline
-
 abbrev pub default_line : ℕ → ℕ → List ℕ
 default_line rise fall = codes "default " ++ decimal rise ++ codes " " ++ decimal fall ++ newline
 
@@ -254,7 +246,7 @@ line_text (line.Output name) = word_line (codes "output ") name
 line_text (line.Changes rows) = flat_map change_line rows.items
 line_text (line.Bound by moment) = bound_line by moment
 line_text (line.Exact time) = number_line (codes "exact ") time
-line_text (line.Between low high) = between_line low high
+line_text (line.Between low high) = figures_line (codes "between ") low high
 line_text (line.AtMost high) = number_line (codes "between none ") high
 line_text line.NoPair = codes "none" ++ newline
 line_text (line.Cause why) = cause_line why
@@ -266,10 +258,10 @@ line_text (line.Each rows) = flat_map row_line rows.items
 line_text (line.Hazards rows) = flat_map hazard_line rows.items
 line_text (line.Parts parts) = flat_map part_line parts.items
 line_text (line.Accepted time) = number_line (codes "accepted ") time
-line_text (line.AcceptedBetween time high) = accepted_line time high
+line_text (line.AcceptedBetween time high) = figures_line (codes "accepted between ") time high
 line_text line.AcceptedNone = codes "accepted none" ++ newline
 line_text (line.Unchecked time) = number_line (codes "unchecked ") time
-line_text (line.UncheckedBetween time high) = unchecked_line time high
+line_text (line.UncheckedBetween time high) = figures_line (codes "unchecked between ") time high
 line_text line.UncheckedNone = codes "unchecked none" ++ newline
 line_text (line.Default rise fall) = default_line rise fall
 line_text (line.OutputNumbers numbers) = output_line numbers
