@@ -371,8 +371,8 @@ def work(tested):
         return
     for with_registers in FIRST:
         random_netlist(tested, with_registers)
-    promised.work(tested)
     refusals.work(tested)
+    promised.work(tested)
     cases.work(tested)
     blocks.work(tested)
     designs.work(tested)

@@ -1,7 +1,7 @@
 //! The arguments that commands have in common.
 
 ghost use Rattle.std.specs.Prelude.{◌≡◌, ◌++◌, [], ◌∷◌, codes, OnOk};
-ghost use Rattle.td_command.specs.CommandLine.{needed, needed_words, needed_number, option, number_option, flag};
+ghost use Rattle.td_command.specs.CommandLine.{needed, needed_words, needed_number, option, number_option, count_option, flag};
 ghost use Rattle.td_command.specs.CommandLine.{with_letter, workers_letter, quiet_letter, common_rules, pair_rules, cube_rules, held_rules, flips_rule, admitted_rules, required_rule, strategy_rule, certificate_rule, outputs_rule, search_rules, table_rules};
 ghost use Rattle.td_command.specs.Telling.{TellsRule, TellsRules};
 

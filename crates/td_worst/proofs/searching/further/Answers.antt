@@ -57,3 +57,16 @@ returns-clause-high g c =
       c.refuted_further-shown.ensures.narrower.high,
       c.led_further-ended.ensures.high _ c.refuted_further-shown.ensures.answer,
     )
+
+pub returns-then-is_answered-2-clause-high : goal.returns-then-is_answered-2-clause-high
+returns-then-is_answered-2-clause-high g c =
+    omega (arith, c.refuted_further-soon.ensures.narrower.high, c.led_further-led.ensures.high _ c.refuted_further-soon.ensures.answer)
+
+pub returns-then-is_exact-clause-high : goal.returns-then-is_exact-clause-high
+returns-then-is_exact-clause-high g c =
+    omega (
+      arith,
+      c.refuted_further-soon.ensures.narrower.high,
+      c.led_further-led.ensures.high _ c.refuted_further-soon.ensures.answer,
+      c.refuted_further-shown.ensures.narrower.high,
+    )
