@@ -13,9 +13,10 @@ has to reach the outputs when the arcs of the SDF file add up to it.
 30 planted faults have to be caught: a gate exchanged, rise and fall swapped, an arc dropped. Each
 refusal has to come by its name, and its remedy has to work. Cases of a designer's own (RTL of which
 yosys drops something, constraints, latches and other state, cuts, SDF files, short delays, the one
-command) stand in bridging/cases.py, conditions in bridging/promised.py, small designs on each library that is installed in
-bridging/blocks.v, designs of each kind of RTL, with what is refused and its remedy, in
-bridging/kinds.v. RTL with registers is synthesised and proved, .bench and BLIF are read, a multiplier of 32 by 32 bits is written within 10 seconds of a processor, the commands of
+command) stand in bridging/cases.py, conditions in bridging/promised.py, small designs on each
+library that is installed in bridging/blocks.v, designs of each kind of RTL, with what is refused
+and its remedy, in bridging/kinds.v. RTL with registers is synthesised and proved, .bench and BLIF
+are read, a multiplier of 32 by 32 bits is written within 10 seconds of a processor, the commands of
 docs/FROM-RTL.md do what that page says, and examples/from_rtl/ comes out as it is kept. It needs
 `yosys`, `sta` (OpenSTA), `iverilog` and `vvp`.
 """

@@ -19,13 +19,14 @@ The tables:
 - `hostile`: certificates that are as long, wide or wrong as a text allows, and what `check` takes.
 - `first`: the first command in a fresh clone of what is committed, which compiles, and later ones.
 
-The netlists are those of examples/ and examples/real/, made by lib/circuits.py, or of the folder `--netlists`; those
-that are in neither are left out, and the table says so. Each run ends after `--seconds` at most,
-and the table says which was stopped; the first command has 20 minutes. Of `--runs` runs the least
-seconds stand in the table, but one run alone in `strategies`, `collection` and `hostile`. Seconds
-are user and system seconds where nothing else is said, and memory is the greatest resident one of a
-process. Each certificate is checked by `check` of the same program. With `--write` the table goes
-into the page, between the comments that name it. Lists of names have commas.
+The netlists are those of examples/ and examples/real/, made by lib/circuits.py, or of the folder
+`--netlists`; those that are in neither are left out, and the table says so. Each run ends after
+`--seconds` at most, and the table says which was stopped; the first command has 20 minutes. Of
+`--runs` runs the least seconds stand in the table, but one run alone in `strategies`, `collection`
+and `hostile`. Seconds are user and system seconds where nothing else is said, and memory is the
+greatest resident one of a process. Each certificate is checked by `check` of the same program. With
+`--write` the table goes into the page, between the comments that name it. Lists of names have
+commas.
 
 Exit status 0 where all that ended agrees and each certificate is accepted, else 1: two exact
 answers to one question are the same, and lie within the figures of the others, and the answers on

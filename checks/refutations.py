@@ -7,13 +7,14 @@ each of them certificates whose trees have leaves by spans among others (lib/ref
 ones; ones with lines of such leaves changed, taken away, doubled or put elsewhere, with lines put
 in (lib/tampering.py), and with lesser claims, all that is late being sooner; ones with changed
 conditions; leaves of random steps; those that `worst` writes; ones of figures that are open; and
-ones that claim that no pair is admitted, of questions that have none. The program has to accept the good ones. Of each certificate both have to say the same, verdict and line, or fault of
-the text and line. What the program takes has to be true by an event queue (lib/event_queue.py),
-which knows no spans: the time of a certificate that it accepts is the greatest delay of all
-admitted pairs, and where none is claimed, there is none; and up to the line that it refuses, each clause of a leaf holds in each run of the
-leaf's admitted pairs, and no net changes later than its end says. The example of
-docs/CERTIFICATE.md, with the changes that stand after it, comes first. A case is one certificate.
-The files of the first difference are kept in DIR, where `--keep DIR` names one.
+ones that claim that no pair is admitted, of questions that have none. The program has to accept the
+good ones. Of each certificate both have to say the same, verdict and line, or fault of the text and
+line. What the program takes has to be true by an event queue (lib/event_queue.py), which knows no
+spans: the time of a certificate that it accepts is the greatest delay of all admitted pairs, and
+where none is claimed, there is none; and up to the line that it refuses, each clause of a leaf
+holds in each run of the leaf's admitted pairs, and no net changes later than its end says. The
+example of docs/CERTIFICATE.md, with the changes that stand after it, comes first. A case is one
+certificate. The files of the first difference are kept in DIR, where `--keep DIR` names one.
 """
 
 import itertools
