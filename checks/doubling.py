@@ -15,12 +15,11 @@ import os
 import re
 import sys
 
-from lib import check, running
+from lib import check, circuits, running
 
 import second_opinion
 
 CASES = 30
-BILLION = 1_000_000_000
 # The levels, of which the first three are tried where nothing is said.
 LEVELS = (12, 20, 22, 24, 28, 40)
 # The limits of memory, in megabytes.
@@ -36,25 +35,9 @@ COMMANDS = [
 COMMANDS += [["worst", "t.v", "--budget", "10"]]
 
 
-def netlist_of(levels):
-    """The netlist, and the moment of its output's last change."""
-    lines, level, last, count = [], "a", 0, 0
-    for place in range(levels):
-        copy, delay = level, 2 ** (levels - place)
-        last += delay + 1
-        while delay:
-            step = min(delay, BILLION)
-            lines.append(f"buf #{step} (c{count},{copy});")
-            copy, delay, count = f"c{count}", delay - step, count + 1
-        after = f"x{place}" if place + 1 < levels else "y"
-        lines.append(f"xor #1 ({after},{level},{copy});")
-        level = after
-    return "module t(a,y);\ninput a;\noutput y;\n" + "\n".join(lines) + "\nendmodule\n", last
-
-
 def count_changes(tested, levels):
     """Looks that the changes double, by another simulation than the program's."""
-    circuit = second_opinion.read_circuit(netlist_of(levels)[0].encode())
+    circuit = second_opinion.read_circuit(circuits.doubling(levels)[0].encode())
     waves = second_opinion.signals(second_opinion.RUN, circuit, [0, 1], [0])
     counts = [len(wave[1]) for wave, gate in zip(waves[3:], circuit.gates) if gate[0] == "xor"]
     if counts != [2 ** (place + 1) for place in range(levels)]:
@@ -114,7 +97,7 @@ def work(tested):
     for levels in range(1, 13):
         count_changes(tested, levels)
     for levels in LEVELS:
-        text, last = netlist_of(levels)
+        text, last = circuits.doubling(levels)
         tested.write("t.v", text)
         for words in COMMANDS:
             for megabytes in SIZES:

@@ -16,6 +16,8 @@ The tables:
   each output, and whether it can glitch.
 - `required`: required times, at the worst delay, beside it, and where a figure stays open.
 - `certificates`: the certificate of each netlist of a folder after five seconds, whatever is open.
+- `stops`: searches that are slow in one phase each, ended by `--seconds` and by `--stop`: how long
+  after, and whether the answer is within that of a longer run.
 - `hostile`: certificates that are as long, wide or wrong as a text allows, and what `check` takes.
 - `first`: the first command in a fresh clone of what is committed, which compiles, and later ones.
 
@@ -40,7 +42,7 @@ import re
 import sys
 import time
 
-from lib import costs, hostile, places, promised, running, searches, standings
+from lib import costs, hostile, places, promised, running, searches, standings, stops
 from lib.table import Table, folded
 
 sys.path.append(os.path.join(places.TOP, "build"))
@@ -58,15 +60,17 @@ TABLES = {
     "hazards": promised.hazards,
     "required": standings.required,
     "certificates": standings.certificates,
+    "stops": stops.stops,
     "hostile": hostile.hostile,
     "first": costs.first,
 }
-# The page has no place for these: those asked for before and after a change, and of conditions.
-UNPLACED = {
-    "speed", "workers", "promises", "changes", "hazards", "required", "certificates"
+# The page has no place for these: before and after a change, of conditions, and by hand.
+UNPLACED = {"speed", "workers", "promises", "hazards", "stops"}
+# Those of which each figure is of one run.
+ONCE = {
+    "strategies", "collection", "promises", "changes", "hazards", "required", "certificates",
+    "stops", "hostile",
 }  # fmt: skip
-# Those of which each figure is of one run, and those that have instructions where they are asked.
-ONCE = UNPLACED - {"speed", "workers"} | {"strategies", "collection", "hostile"}
 COUNTED = {"commands", "speed"}
 
 

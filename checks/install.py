@@ -28,9 +28,11 @@ BRIDGES = os.path.join(places.TOP, "bridges")
 FILES = {
     "bin/tdelay",
     "bin/tdelay-figure",
+    "lib/tdelay/tdelay",
     "share/bash-completion/completions/tdelay",
     "share/fish/vendor_completions.d/tdelay.fish",
     "share/man/man1/tdelay.1",
+    "share/tdelay/front.sh",
     "share/tdelay/installed",
     "share/tdelay/version",
     "share/zsh/site-functions/_tdelay",
@@ -109,8 +111,9 @@ def installed(tested, place):
     version = places.text_of(place.inside("share/tdelay/version")).splitlines()
     tested.expect("the version and the commit", said, version)
     tested.expect("what an install says", True, f"installed {', '.join(said)} in" in done.out)
-    mode = stat.S_IMODE(os.stat(place.inside("bin/tdelay")).st_mode)
-    tested.expect("the permissions of the program", 0o755, mode)
+    for name in ("bin/tdelay", "lib/tdelay/tdelay"):
+        mode = stat.S_IMODE(os.stat(place.inside(name)).st_mode)
+        tested.expect(f"the permissions of {name}", 0o755, mode)
     answer = running.run([place.inside("bin/tdelay"), "worst", places.example("c17.v")])
     tested.expect("what the installed program answers", (0, WANTED, ""), tuple(answer))
     figure = running.run([place.inside("bin/tdelay-figure"), "--help"])

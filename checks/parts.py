@@ -7,13 +7,15 @@ question is cut by `parts` into 2 to 40 parts with either strategy; each part is
 pins of exactly one part (by looking at all pairs, where they are few); each part has one; there are
 no more parts than were asked for; `join`, with a check or without, reports the time of the whole
 search, and what it is about as `check` does; `check` accepts what it writes, which is about the
-question that was asked. A part left out, one taken twice, one of another question, one with
-another time and words of another question are refused. One more case is
-examples/many_machines.sh without GNU parallel, and one with it, where it is there: on
-examples/mult_8.v, and on examples/adder_8.v with a budget that cuts parts short, where the worst
-delay has to lie between the two figures that it gives; and on examples/c17.v with each option of
-`worst` that says what is asked. The commands of docs/MANY-MACHINES.md for one machine are run of
-examples/c17.v. At least 60 of 100 cases are cut into two parts or more.
+question that was asked. Parts that are cut short and have certificates of both figures, or claim a
+greater upper one, are joined: the whole has the greatest of both, which decide whether a required
+moment is met. A part left out, one taken twice, one of another question, one with another time and
+words of another question are refused. One more case is examples/many_machines.sh without GNU
+parallel, and one with it, where it is there: on examples/mult_8.v, and on examples/adder_8.v with a
+budget that cuts parts short, where the worst delay has to lie between the two figures that it
+gives, with their certificates and without; and on examples/c17.v with each option of `worst` that
+says what is asked. The commands of docs/MANY-MACHINES.md for one machine are run of examples/c17.v.
+At least 60 of 100 cases are cut into two parts or more.
 """
 
 import os
@@ -109,6 +111,59 @@ def wrong_join(asked, lines):
     return wrong_count(asked, names) or wrong_question(asked, names)
 
 
+def standing_of(required, figures):
+    """How a required moment stands by two figures, and the status."""
+    if figures.high <= required:
+        return "met", 0
+    return ("violated", 6) if required < figures.low else ("open", 3)
+
+
+def figures_less_sure(tested, name, figures):
+    """Some figures that a certificate claims, rewritten, which it shows too: where it tells the upper
+    one, it may claim a greater one.
+    """
+    told = f"\nhigh {figures.high}\n"
+    text = tested.read(name).decode()
+    more = tested.random.choice([0, 0, 1, 3])
+    if told not in text:
+        return figures
+    tested.write(name, text.replace(told, f"\nhigh {figures.high + more}\n"))
+    return figures._replace(high=figures.high + more)
+
+
+def wrong_open(asked, lines):
+    """What is wrong where parts are cut short and joined as they are, if all have certificates."""
+    names, found = [], []
+    for place, line in enumerate(lines):
+        asked.tested.remove(f"o{place}")
+        words = ["--budget", str(asked.tested.random.choice([0, 2, 1000])), "--cert-between"]
+        words += ["--strategy", asked.tested.random.choice(["least", "lead"])]
+        done = asked.run("worst", "t.v", *line, *words, "--cert", f"o{place}")
+        if asked.tested.read(f"o{place}") is None:
+            return None
+        names.append(f"o{place}")
+        found.append(figures_less_sure(asked.tested, names[-1], reports.figures_of(done.out)))
+    figures = reports.Figures(*(max(each) for each in zip(*found)))
+    status = 0 if figures.low == figures.high else 3
+    asked.tested.random.shuffle(names)
+    how = asked.tested.random.choice([[], ["--no-check"]])
+    done = asked.run("join", "t.v", *names, *asked.words, *how, "--cert", "open")
+    ended = f"open parts: {done.status} {done.out}{done.err}of {found}"
+    if done.status != status or reports.figures_of(done.out) != figures:
+        return ended
+    checked = asked.run("check", "t.v", "open")
+    accepted = "accepted " + (f"between {figures.low} {figures.high}" if status else f"{figures.low}")
+    if checked.status != 0 or checked.out.splitlines()[0] != accepted:
+        return f"{ended}: {checked.out}{checked.err}"
+    required = asked.tested.random.randint(max(figures.low - 2, 0), figures.high + 1)
+    standing, status = standing_of(required, figures)
+    done = asked.run("join", "t.v", *names, *asked.words, *how, "--required", str(required))
+    if done.status != status or f"required {required} {standing}" not in done.out.splitlines():
+        return f"{ended}: {done.status} {done.out}{done.err}"
+    asked.tested.has_kind("open" if accepted.startswith("accepted between") else "closed")
+    return None
+
+
 def wrong_count(asked, names):
     """What is wrong where a part is left out, or taken twice."""
     if len(names) > 1:
@@ -162,8 +217,7 @@ def forged(asked, lines):
     if done.status != 4 or not done.err.startswith("tdelay: forged: refused "):
         return f"a forged time: {done.status} {done.out}{done.err}"
     done = asked.run("join", "t.v", "--no-check", *names, *asked.words, "--cert", "other")
-    is_open = done.status == 4 and done.err == "tdelay: forged: open\n"
-    if not is_open and (done.status != 0 or asked.run("check", "t.v", "other").status != 4):
+    if done.status not in (0, 3) or asked.run("check", "t.v", "other").status != 4:
         return f"a forged time, unchecked: {done.status} {done.out}{done.err}"
     return None
 
@@ -184,6 +238,7 @@ def wrong(tested, text, inputs):
     found = (
         wrong_cut(asked, lines, count)
         or wrong_join(asked, lines)
+        or wrong_open(asked, lines)
         or mixed(asked, lines)
         or forged(asked, lines)
     )
@@ -242,6 +297,7 @@ def scripts(tested):
     for path in [without] + [os.environ["PATH"]] * (shutil.which("parallel") is not None):
         found = wrong_script(tested, path, "mult_8", LEAD, 0)
         found = found or wrong_script(tested, path, "adder_8", SHORT, 3)
+        found = found or wrong_script(tested, path, "adder_8", [*SHORT, "--cert-between"], 3)
         if found:
             tested.fault(found)
         tested.case("script without parallel" if path == without else "script with parallel")
@@ -286,6 +342,7 @@ def work(tested):
 def shares(tested, _cut):
     tested.require("cut", 0.4)
     tested.require("of another question", 0.3)
+    tested.require("open", 0.1)
 
 
 if __name__ == "__main__":

@@ -10,7 +10,9 @@ submits no part. Then the same with an array of at most 6 tasks, as where there 
 a site's MaxArraySize.
 
 Before all that, submit.sh runs with each option of `worst` that says what is asked, of
-examples/c17.v, with a stand-in for Slurm that runs each job at once.
+examples/c17.v, with a stand-in for Slurm that runs each job at once; and with parts that are cut
+short and have certificates, which are joined, of examples/adder_8.v. A part that gets the signal of
+its time limit ends with its figures, and a certificate.
 
 The YAML of docs/MANY-MACHINES.md has to parse, and the command in it has to search its part under
 `sh`. Where Slurm, munge or a reader of YAML isn't installed, it says so.
@@ -22,6 +24,7 @@ import json
 import os
 import re
 import shutil
+import signal
 import socket
 import subprocess
 import sys
@@ -30,12 +33,14 @@ import time
 from bridging.designs import exact
 from lib import check, places, reports
 from lib.questions import ASKED
-from lib.running import run
+from lib.running import end_all, run
 
 NETLIST = os.path.join(places.TOP, "examples", "mult_8.v")
 SUBMIT = os.path.join(places.TOP, "examples", "slurm", "submit.sh")
 PAGE = os.path.join(places.TOP, "docs", "MANY-MACHINES.md")
 PARTS = 16
+# What cuts each part short.
+SHORT = ["--strategy", "least", "--budget", "0"]
 # The daemons and the client commands stand here too.
 os.environ["PATH"] += ":/usr/sbin:/sbin"
 NEEDS = ("munged", "mungekey", "slurmctld", "slurmd", "sbatch", "squeue", "scontrol")
@@ -309,6 +314,44 @@ def asked(tested):
         log = read(work, "join.log")
         ends = ended.status, f"accepted {time}" in log.splitlines()
         tested.expect(f"submit.sh with {words}: {ended.err}{log}", (0, True), ends, "asked")
+    work = os.path.join(tested.folder, "cut-short")
+    os.mkdir(work)
+    words = [*SHORT, "--cert-between", "--required", "2"]
+    run([SUBMIT, places.example("adder_8.v"), "4", *words], work, env=environment)
+    log = read(work, "join.log")
+    figures = re.search(r"^unchecked (between \d+ \d+)$", log, re.M)
+    ends = figures and f"accepted {figures[1]}" in log, "required 2 violated\n" in log
+    tested.expect(f"submit.sh with {words}: {log}", (True, True), ends, "cut short")
+
+
+def stopped(tested):
+    """Cases: a part that gets the signal which Slurm sends before its time limit."""
+    work = os.path.join(tested.folder, "stopped")
+    os.mkdir(work)
+    with open(os.path.join(work, "parts.txt"), "w", encoding="ascii") as file:
+        file.write(tested.run("parts", NETLIST, "--parts", "1").out)
+    how = "--strategy least --budget 10000000 --cert-between"
+    task = {"OFFSET": "0", "SLURM_ARRAY_TASK_ID": "1", "HOW": how, "BUDGET": ""}
+    environment = {**os.environ, **task, "NETLIST": NETLIST, "TDELAY": tested.program}
+    part = os.path.join(os.path.dirname(SUBMIT), "part.sbatch")
+    with subprocess.Popen(["bash", part], cwd=work, env=environment, start_new_session=True) as job:
+        try:
+            end = time.monotonic() + 60
+            while not os.path.exists(os.path.join(work, "part-1.out")) and time.monotonic() < end:
+                time.sleep(0.01)
+            time.sleep(tested.random.random())
+            job.send_signal(signal.SIGUSR1)
+            status = job.wait(timeout=60)
+        finally:
+            end_all(job)
+    report = read(work, "part-1.out")
+    claim = re.search(r"(?m)^(between \d+ \d+)\ncause stop$", report)
+    ends = status, bool(claim)
+    tested.expect(f"a part at its time limit: {report}", (3, True), ends, "stopped")
+    said = tested.run("check", NETLIST, os.path.join(work, "part-1.cert")).out.splitlines()[:1]
+    tested.expect("its certificate", [f"accepted {claim[1]}"] if claim else None, said, "stopped")
+    names = ["part-1.cert", "part-1.out", "parts.txt"]
+    tested.expect("its files", names, sorted(os.listdir(work)), "stopped")
 
 
 def yaml_reader():
@@ -380,6 +423,7 @@ def work(tested):
         tested.fault("the worst delay of examples/c17.v isn't 3")
         return
     asked(tested)
+    stopped(tested)
     kubernetes(tested)
     lacking = [name for name in NEEDS if not shutil.which(name)]
     if lacking:
@@ -393,7 +437,7 @@ def work(tested):
 def shares(tested, cut):
     """What can be run was run."""
     if not cut and all(map(shutil.which, NEEDS)):
-        tested.require("job array", 0.5)
+        tested.require("job array", 0.4)
 
 
 if __name__ == "__main__":

@@ -3,7 +3,7 @@
 answers, how long a run took that is known to sleep, and which runs didn't end; programs that
 contradict each other, answers that aren't the known ones, and certificates that aren't accepted end
 it with status 1; bad words are refused; `--write` puts a table into its place in a page, and
-docs/FIGURES.md has a place for each but five. The gate is run of a toolchain that does nothing.
+docs/FIGURES.md has a place for each but those that are run by hand. The gate is run of a toolchain that does nothing.
 """
 
 import os

@@ -11,8 +11,9 @@ case, and there are 400 at least, half of which print something.
 
 A command that is one call of `tdelay`, and prints a report, is called once more with `--json`: it
 prints one JSON object then, and what Python reads is what the lines say (lib/reports.py), by the
-table of docs/MANUAL.md. Each of these is a case too, and there are 90 at least. And it is called
-with `--quiet`, prints nothing on standard output then, and ends as without it: another case.
+table of docs/MANUAL.md. Each of these is a case too, and there are 90 at least. Each is also held
+against docs/report.schema.json, if Python has the module jsonschema. And it is called with
+`--quiet`, prints nothing on standard output then, and ends as without it: another case.
 """
 
 import glob
@@ -20,7 +21,7 @@ import os
 import re
 import sys
 
-from lib import check, places, reports, running
+from lib import check, places, reports, running, schema
 
 # The longest that a command may take, in seconds.
 LONGEST = 40
@@ -58,6 +59,9 @@ def try_json(tested, command, ran, folder, environment):
     said = reports.lines_of_json(again.out.decode(errors="replace"))
     got = (again.status, again.err, said)
     tested.expect(f"{command} --json", wanted, got, "as JSON")
+    if said is not None:
+        for fault in schema.faults(again.out):
+            tested.fault(f"{command} --json: {fault}")
 
 
 def try_quiet(tested, command, ran, folder, environment):
@@ -97,6 +101,8 @@ def try_transcript(tested, path):
 
 
 def work(tested):
+    if not schema.is_looked_at():
+        print("docs/report.schema.json isn't looked at: python3-jsonschema isn't there")
     for path in tested.asked.file or sorted(
         glob.glob(os.path.join(places.CHECKS, "transcripts", "*.t"))
     ):

@@ -54,7 +54,7 @@ MAIN = {
     "td_search": ["alone", "alone_by", "find", "finish"],
     "td_pool": ["worst", "worst_by", "search"],
     "td_parts": ["cut"],
-    "td_worst": ["worst", "worst_until"],
+    "td_worst": ["worst", "worst_kept"],
     "td_cli": ["program", "run", "run_plain"],
     "td_hints": ["flaw_sentence", "taken_net"],
     "td_terminal": ["new"],

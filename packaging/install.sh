@@ -1,7 +1,8 @@
 #!/usr/bin/env bash
 # install.sh [--unproved] [--program FILE] [PREFIX]: installs `tdelay`, its man page, its completions
 # for bash, zsh and fish, and `tdelay-figure` with the bridges from RTL (share/tdelay/bridges) below
-# PREFIX, /usr/local where it is left out.
+# PREFIX, /usr/local where it is left out. bin/tdelay is a script that runs lib/tdelay/tdelay by
+# front.sh, so that ^C loses nothing.
 # install.sh --remove [PREFIX]: removes what an install has put there, and the folders it made.
 #
 # The program is the one that `rt ci` or ./prove has proved of the present sources, or FILE, which
@@ -66,7 +67,15 @@ make_files() {
     for name in "$list" "${names[@]}"; do
         mkdir -p "$room/$(dirname "$name")"
     done
-    cp "$program" "$room/bin/tdelay"
+    cp "$program" "$room/lib/tdelay/tdelay"
+    cp "$here/packaging/front.sh" "$room/share/tdelay/front.sh"
+    cat > "$room/bin/tdelay" << 'END'
+#!/bin/sh
+# Runs ../lib/tdelay/tdelay, a search so that ^C loses nothing.
+here="$(dirname "$(readlink -f "$0")")/.."
+set -- "$here/lib/tdelay/tdelay" "$@"
+. "$here/share/tdelay/front.sh"
+END
     { "$program" --version && print_commit; } > "$room/share/tdelay/version"
     python3 "$here/packaging/manual.py" "$program" > "$room/share/man/man1/tdelay.1"
     for name in $(bridges); do
@@ -97,7 +106,7 @@ install_files() {
         printf '%s\n' "$name"
     done | awk '!seen[$0]++' > "$room/$list"
     chmod 644 "$room/$list" "${names[@]/#/$room/}"
-    chmod 755 "$room/bin/tdelay" "$room/bin/tdelay-figure" "$room"/share/tdelay/bridges/*.sh \
+    chmod 755 "$room"/bin/* "$room/lib/tdelay/tdelay" "$room"/share/tdelay/bridges/*.sh \
         "$room"/share/tdelay/bridges/*.py
     for name in "$list" "${names[@]}"; do
         # Beside its place first: a program that runs may keep its old file.
@@ -130,7 +139,8 @@ remove_files() {
 }
 
 list=share/tdelay/installed
-names=(bin/tdelay bin/tdelay-figure share/tdelay/version share/man/man1/tdelay.1 share/bash-completion/completions/tdelay
+names=(lib/tdelay/tdelay share/tdelay/front.sh bin/tdelay bin/tdelay-figure share/tdelay/version
+    share/man/man1/tdelay.1 share/bash-completion/completions/tdelay
     share/zsh/site-functions/_tdelay share/fish/vendor_completions.d/tdelay.fish)
 for name in $(bridges); do
     names+=("share/tdelay/$name")

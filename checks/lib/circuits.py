@@ -5,7 +5,8 @@ gates with 100 inputs. Texts that are long to read are `chain_N` of N buffers fr
 `back_N` of as many back to front, `noted_N` as `chain_N` with a comment of 250 bytes after each
 gate, `and8_N` and `and1024_N` of N `and` gates of 8 and of 1,024 terminals, all on the same inputs,
 `comment_N` of one buffer and one comment, N bytes in all, and `inverters_N` of N inputs with an
-inverter each.
+inverter each. Slow to search are `doubling_N`, N levels whose changes double, and `xor1000_N` of N
+`xor` gates of 1,000 terminals.
 """
 
 import os
@@ -16,6 +17,7 @@ from . import places
 from .netlists import chain, module
 
 SEED = 7
+BILLION = 1_000_000_000
 
 
 class Gates:
@@ -133,6 +135,36 @@ def inverters(count):
     return module(inputs, outputs, *(f"not #1 g{it}(y{it},a{it})" for it in range(count)))
 
 
+def doubling(levels):
+    """Levels whose changes double, and the moment of the output's last change: each is an xor of
+    the level before and a delayed copy of it. The delays halve from level to level, so that no two
+    changes meet and no pulse is lost.
+    """
+    lines, level, last, count = [], "a", 0, 0
+    for place in range(levels):
+        copy, delay = level, 2 ** (levels - place)
+        last += delay + 1
+        while delay:
+            step = min(delay, BILLION)
+            lines.append(f"buf #{step} (c{count},{copy});")
+            copy, delay, count = f"c{count}", delay - step, count + 1
+        after = f"x{place}" if place + 1 < levels else "y"
+        lines.append(f"xor #1 ({after},{level},{copy});")
+        level = after
+    return "module t(a,y);\ninput a;\noutput y;\n" + "\n".join(lines) + "\nendmodule\n", last
+
+
+def xors(count, terminals):
+    """Gates that read the outputs of those before them, by many terminals, and inputs."""
+    inputs = [f"a{number}" for number in range(terminals - 1)]
+    nets, gates = list(inputs), []
+    for number in range(count):
+        net = "y" if number + 1 == count else f"w{number}"
+        gates.append(f"xor #({1 + number % 3},2) ({net},{','.join(nets[1 - terminals :])})")
+        nets.append(net)
+    return module(",".join(inputs), "y", *gates)
+
+
 MADE = {
     "adder": adder,
     "mult": multiplier,
@@ -144,6 +176,8 @@ MADE = {
     "and1024": lambda count: ands(count, 1024),
     "comment": commented,
     "inverters": inverters,
+    "doubling": lambda levels: doubling(levels)[0],
+    "xor1000": lambda count: xors(count, 1000),
 }
 
 

@@ -62,6 +62,15 @@ LIES = {
         "a search that was cut short ends well": where("--each", '$R "$@"; exit 0'),
     },
     "failing_files": {"a file is left where one fails": 2},
+    "fronts": {
+        "a search that was stopped has no report": where("worst --stop", '$R "$@" >/dev/null'),
+        "a certificate that is cut off": where(
+            "worst --stop", '$R "$@"; status=$?; [ -f c ] && truncate -s -2 c; exit $status'
+        ),
+        "a search that was stopped ends well": where("worst --stop", '$R "$@"; exit 0'),
+        "no netlist on standard input": where("worst --stop", '$R "$@" </dev/null'),
+        "its own file goes unheeded": where("--stop mine", 'exec $R worst none'),
+    },
     "install": {
         "a time that is one more": where("worst", MORE.format(key="exact", by=1)),
         "help without one of the values": where("--help", edited("s/least, //")),
@@ -90,6 +99,12 @@ LIES = {
     "parts": {
         "a part is left out": where("parts", edited("$d")),
         "a part comes twice": where("parts", edited("$p")),
+        "a whole that stays open ends well": where(
+            "join", '$R "$@"; status=$?; [ $status = 3 ] && exit 0; exit $status'
+        ),
+        "a required moment that a whole leaves open is met": where(
+            "--required", edited(r"s/^\(required .*\) open$/\1 met/")
+        ),
     },
     "refutations": {
         "refused certificates are accepted, too": where("check", ACCEPTS),
@@ -106,6 +121,10 @@ LIES = {
         "a violated moment is met": where("--required", edited("s/ violated$/ met/")),
         "a violated moment ends well": where(
             "--required", '$R "$@"; status=$?; [ $status = 6 ] && exit 0; exit $status'
+        ),
+        "a slack without its sign": where("--each", edited(r"s/ slack -/ slack /")),
+        "a bound that is one greater meets": where(
+            "bound", edited(r"s/^required \([0-9]*\) open$/required \1 met/")
         ),
         "an upper figure that is one less": where(
             "--cert-between",

@@ -16,12 +16,13 @@ def values_of(report):
 
 
 def figures_of(report):
-    """The figures of a search, None where there are none: both are the time of an exact answer, or
-    of parts that are joined unchecked.
+    """The figures of a search, or of parts that are joined, be it unchecked, None where there are
+    none: both are the time of an exact answer.
     """
     values = values_of(report)
-    exact = values.get("exact") or values.get("unchecked", "")
-    words = exact.split() * 2 or values.get("between", "").split()
+    exact, _, unchecked = values.get("unchecked", "").partition("between ")
+    exact = values.get("exact") or exact
+    words = exact.split() * 2 or (values.get("between") or unchecked).split()
     if len(words) != 2 or not all(word.isdigit() for word in words):
         return None
     return Figures(*map(int, words))
@@ -35,16 +36,21 @@ def bound_without_pair(report):
 
 def rows_of(report):
     """The rows of a table of outputs: the name, its figures, and the bound by edges as a text."""
-    form = r"(?m)^each (.*) (?:exact (\d+)|between (\d+) (\d+)) edges (\d+|none)$"
     return [
         (name, Figures(int(time or low), int(time or high)), edges)
-        for name, time, low, high, edges in re.findall(form, report)
+        for name, time, low, high, edges, _, _ in re.findall(ROW, report)
     ]
+
+
+def slacks_of(report):
+    """How a required moment stands in each row of a table of outputs, and the slack as a text."""
+    return [fields[5:] for fields in re.findall(ROW, report)]
 
 
 def is_exact(report):
     """Whether a search, or parts that are joined unchecked, answered exactly."""
-    return not values_of(report).keys().isdisjoint(("exact", "unchecked"))
+    values = values_of(report)
+    return "exact" in values or values.get("unchecked", "between").split()[0] != "between"
 
 
 def finds_no_pair(done):
@@ -81,6 +87,11 @@ LISTED = "last change input output each hazard".split()
 FIGURES = "exact between edges".split()
 # Those of its columns of changes.
 CHANGES = "rise fall glitch".split()
+# A row of outputs: its name, its figures, its bound by edges, and how a required moment stands.
+ROW = (
+    r"(?m)^each (.*) (?:exact (\d+)|between (\d+) (\d+)) edges (\d+|none)"
+    r"(?: required (met|violated|open) slack (\S+))?$"
+)
 
 
 def number_in(word):
@@ -95,12 +106,21 @@ def column_in(word):
     return word if word == "none" else number_in(word)
 
 
+def slack_in(word):
+    """The value in JSON of a slack, or of two."""
+    if ".." in word:
+        return [None if slack == "none" else int(slack) for slack in word.split("..")]
+    return word if word == "none" else int(word)
+
+
 def each_in(name, found, *rest):
     """The value of a row of outputs in JSON."""
-    place = rest.index("rise") if "rise" in rest else len(rest)
+    end = rest.index("required") if "required" in rest else len(rest)
+    place = rest.index("rise") if "rise" in rest else end
     figures = [word if word in FIGURES else number_in(word) for word in rest[:place]]
-    columns = [word if word in CHANGES else column_in(word) for word in rest[place:]]
-    return [name, found, *figures, *columns]
+    columns = [word if word in CHANGES else column_in(word) for word in rest[place:end]]
+    slack = [*rest[end : end + 3], *map(slack_in, rest[end + 3 :])]
+    return [name, found, *figures, *columns, *slack]
 
 
 def value_in(key, text):

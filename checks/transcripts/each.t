@@ -172,7 +172,7 @@ Hints are as without it, but of the search for some output.
     help: write 0, 1 or . (free) for each, the first character for the first input
   [2]
   $ tdelay worst two.v --each --budget 0 --hints > said
-  the search for some output ended before it was done: 0 nodes are the budget of each, unless memory or time ended it; all figures are true
+  the search for some output ended before it was done: 0 nodes are the budget of each, unless memory, time or --stop ended it; all figures are true
     help: a greater --budget, at most 10000000
     help: --workers N, as many as the machine has processors
     help: or fewer pairs: --first, --second, --hold, --flips; or `tdelay parts`

@@ -317,3 +317,132 @@ With `examples/many_machines.sh` each of them goes to `parts`, `worst`, `join` a
   unchecked 9,from 10,to 11,nodes 11,accepted 9
   unchecked 4,from 00,to 01,nodes 15,default 1 9,output 1,accepted 4
   unchecked 1,from 11,to 00,nodes 5,output 0,accepted 1
+
+Parts that were cut short are joined where they have a certificate of both figures. The whole has the greatest of each, and its line is that of
+`worst`. The netlist has the worst delay 5; `short.sh` searches the parts by the first input, each within so many nodes.
+
+  $ cat > late.v <<'END'
+  > module t(a, b, y, z);
+  > input a, b;
+  > output y, z;
+  > not #(2,3) g(y,a);
+  > xor #(4,5) h(z,a,b);
+  > endmodule
+  > END
+  $ cat > short.sh <<'END'
+  > tdelay worst late.v --strategy least --first 0. --budget $1 --cert-between --cert low
+  > tdelay worst late.v --strategy least --first 1. --budget $2 --cert-between --cert high
+  > END
+  $ bash short.sh 0 0 | grep '^[eb]'
+  between 3 5
+  between 2 5
+  $ tdelay join late.v low high --cert whole
+  unit 1 ns
+  defaulted 0
+  between 3 5
+  from 00
+  to 11
+  nodes 3
+  [3]
+  $ tdelay join late.v high low --no-check --json
+  {"proved":true,"unit":"1 ns","defaulted":0,"unchecked":[3,5],"from":"00","to":"11","nodes":3}
+  [3]
+  $ tdelay check late.v whole; paste -sd, whole
+  accepted between 3 5
+  tdelay-cert 4,circuit 2 2,default 1 1,output all,first ..,second ..,hold ..,flips 2,at 0 0,keep none,time 3,high 5,from 00,to 11,s 0,b m 5,b m 5
+
+A required moment is met where no part's upper figure is above it, and violated by the given pair.
+
+  $ for moment in 5 4 3 2; do tdelay join late.v low high --required $moment | tail -1; echo ${PIPESTATUS[0]}; done
+  required 5 met
+  0
+  required 4 open
+  3
+  required 3 open
+  3
+  required 2 violated
+  6
+  $ tdelay join late.v low high --required 2 --no-check
+  unit 1 ns
+  defaulted 0
+  unchecked between 3 5
+  from 00
+  to 11
+  nodes 3
+  required 2 violated
+  [6]
+  $ tdelay join late.v low high --required 4 --no-check --json
+  {"proved":true,"unit":"1 ns","defaulted":0,"unchecked":[3,5],"from":"00","to":"11","nodes":3,"required":[4,"open"]}
+  [3]
+  $ tdelay join late.v low high --required 4 --first 0.
+  tdelay: high: other pins
+  [4]
+  $ tdelay join late.v low high --required
+  error: a value is required for '--required <N>' but none was supplied
+  
+  For more information, try '--help'.
+  [2]
+
+A part that is exact, and as late as the others may be, makes the whole exact. A part in which no pair is admitted counts for nothing.
+
+  $ bash short.sh 0 1000 | grep '^[eb]'
+  between 3 5
+  exact 5
+  $ tdelay join late.v low high --required 4 --cert whole
+  unit 1 ns
+  defaulted 0
+  exact 5
+  from 10
+  to 00
+  nodes 9
+  required 4 violated
+  [6]
+  $ tdelay check late.v whole
+  accepted 5
+  $ for half in 0. 1.; do tdelay worst late.v --keep y=11 --first $half --cert kept-$half; done | grep '^[ebn]'
+  exact 5
+  nodes 1
+  none
+  nodes 1
+  $ sed -i 's/^high 5/high 7/' kept-0.
+  $ tdelay join late.v kept-0. kept-1. --keep y=11 --required 6 --cert whole
+  unit 1 ns
+  defaulted 0
+  between 5 7
+  from 01
+  to 00
+  nodes 3
+  required 6 open
+  keep 4 11
+  [3]
+  $ tdelay check late.v whole
+  accepted between 5 7
+  keep 4 11
+
+Parts whose upper figure is too low aren't accepted.
+
+  $ bash short.sh 0 0 > report; sed -i 's/^high 5/high 4/' low high
+  $ tdelay join late.v low high
+  tdelay: low: refused 4 LeafAboveTime line 15
+  [4]
+  $ tdelay join late.v low high --no-check --cert whole | sed -n 3p
+  unchecked between 3 4
+  $ tdelay check late.v whole
+  refused 4 LeafAboveTime line 16
+  [4]
+
+With `examples/many_machines.sh` the options are those of each search, and of `join`.
+
+  $ for words in '--budget 0 --cert-between' '--budget 0 --cert-between --required 5' '--budget 0 --required=2' '--budget=0 --required 4' '--budget 0'; do
+  >   TDELAY=tdelay JOBS=2 $NETLISTS/many_machines.sh late.v 2 whole --strategy least $words | paste -sd,; echo ${PIPESTATUS[0]}
+  > done
+  unit 1 ns,defaulted 0,unchecked between 3 5,from 00,to 11,nodes 3,accepted between 3 5
+  3
+  unit 1 ns,defaulted 0,unchecked between 3 5,from 00,to 11,nodes 3,required 5 met,accepted between 3 5
+  0
+  unit 1 ns,defaulted 0,unchecked between 3 5,from 00,to 11,nodes 3,required 2 violated,accepted between 3 5
+  6
+  unit 1 ns,defaulted 0,unchecked between 3 5,from 00,to 11,nodes 3,required 4 open,accepted between 3 5
+  3
+  between 3 5
+  3

@@ -350,15 +350,6 @@ Commands that don't take them refuse them as any option.
   
   For more information, try '--help'.
   [2]
-  $ tdelay bound bus.v --hold-input a
-  error: unexpected argument '--hold-input' found
-  
-    tip: to pass '--hold-input' as a value, use '-- --hold-input'
-  
-  Usage: tdelay bound <FILE>
-  
-  For more information, try '--help'.
-  [2]
   $ tdelay bound bus.v --keep a=11
   error: unexpected argument '--keep' found
   

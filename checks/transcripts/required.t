@@ -190,6 +190,110 @@ No input changes, and no pair.
   tdelay: no admitted pair
   [1]
 
+Of each output by itself: how the required moment stands, and its slack, which is below 0 where the
+output is later. The search for an output ends once that is known. The status is that of the worst
+row.
+
+  $ tdelay worst c17.v --each --required 3
+  unit 1 ns
+  defaulted 6
+  each N22 exact 3 edges 3 required met slack 0
+  each N23 exact 3 edges 3 required met slack 0
+  $ tdelay worst c17.v --each --required 2
+  unit 1 ns
+  defaulted 6
+  each N22 exact 3 edges 3 required violated slack -1
+  each N23 exact 3 edges 3 required violated slack -1
+  [6]
+  $ tdelay worst mult_8.v --each --strategy refute --budget 1 --required 110 | tail -6
+  each p10 between 58 100 edges 100 required met slack 10..52
+  each p11 between 54 105 edges 105 required met slack 5..56
+  each p12 between 69 110 edges 110 required met slack 0..41
+  each p13 between 112 115 edges 115 required violated slack -5..-2
+  each p14 between 115 120 edges 120 required violated slack -10..-5
+  each p15 between 112 121 edges 121 required violated slack -11..-2
+  $ tdelay worst mult_8.v --each --strategy refute --budget 1 --required 121 --quiet
+  $ tdelay worst mult_8.v --each --strategy refute --budget 1 --required 110 --quiet
+  [6]
+  $ tdelay worst mult_8.v --each --strategy refute --budget 1 --required 90 --quiet
+  [6]
+
+With changes, whose figures are searched for as without it; of pairs that keep conditions, where none
+is known, and where there is none.
+
+  $ tdelay worst c17.v --each --changes --required 2
+  unit 1 ns
+  defaulted 6
+  each N22 exact 3 edges 3 rise 3 fall 3 glitch 3 required violated slack -1
+  each N23 exact 3 edges 3 rise 3 fall 3 glitch 3 required violated slack -1
+  [6]
+  $ tdelay worst c17.v --each --required 2 --keep N22=11 --budget 0
+  unit 1 ns
+  defaulted 6
+  each N22 between none 3 edges 3 required open slack -1..none
+  each N23 between none 3 edges 3 required open slack -1..none
+  [3]
+  $ tdelay worst hazard.v --each --required 4 --keep a=10 --keep a=01
+  unit 1 ns
+  defaulted 0
+  each y none edges 5 required met slack none
+  $ tdelay worst hazard.v --each --required 4 --keep a=10 --keep a=01 --json | grep -o '\[\[.*'
+  [["y","none","edges",5,"required","met","slack","none"]]}
+
+By bounds alone, those by edges too: met, or open at once. Inputs may be held, and flips counted.
+
+  $ tdelay bound hazard.v --required 5
+  unit 1 ns
+  defaulted 0
+  a 5
+  t none
+  m 5
+  e 5
+  n 5
+  required 5 met
+  $ tdelay bound hazard.v --required 4 --outputs --earliest
+  unit 1 ns
+  defaulted 0
+  a 5
+  t none
+  m 5
+  e 5
+  n 5
+  output y
+  earliest 2
+  required 4 open
+  [3]
+  $ tdelay bound hazard.v --pin s=1 --hold ==. --flips 1 --required 4
+  unit 1 ns
+  defaulted 0
+  a 2
+  t none
+  m 2
+  e 2
+  n 2
+  required 4 met
+  $ tdelay bound hazard.v --hold-input s --at a=2 --required 6
+  unit 1 ns
+  defaulted 0
+  a 5
+  t none
+  m 5
+  e 5
+  n 5
+  required 6 met
+  $ tdelay bound hazard.v --hold ==
+  tdelay: bad vector hold
+  [2]
+  $ tdelay bound hazard.v --hold-input q
+  tdelay: no input q
+  [2]
+
+`parts` hands it on to each part.
+
+  $ tdelay parts hazard.v --parts 2 --required 4 --flips 2 --at 0,0,1
+  --first 0.. --second ... --flips 2 --at 0,0,1 --required 4
+  --first 1.. --second ... --flips 2 --at 0,0,1 --required 4
+
 Words that say no moment, and options that don't go together.
 
   $ tdelay worst hazard.v --required
@@ -224,17 +328,22 @@ Words that say no moment, and options that don't go together.
   
   For more information, try '--help'.
   [2]
-  $ tdelay bound hazard.v --required 5
+  $ tdelay worst hazard.v --hazards --required 5
+  tdelay: --hazards doesn't go together with --required: write --output NAME --keep NAME== in place of --hazards
+  [2]
+  $ tdelay sim hazard.v 000 101 --required 5
   error: unexpected argument '--required' found
   
     tip: to pass '--required' as a value, use '-- --required'
   
-  Usage: tdelay bound <FILE>
+  Usage: tdelay sim <FILE> <FROM> <TO>
   
   For more information, try '--help'.
   [2]
-  $ tdelay worst hazard.v --each --required 5
-  tdelay: --each doesn't go together with --required: write --output NAME in place of --each
+  $ tdelay bound hazard.v --required soon
+  error: invalid value 'soon' for '--required <N>': invalid digit found in string
+  
+  For more information, try '--help'.
   [2]
   $ tdelay worst hazard.v --cert-between
   tdelay: --cert-between wants --cert: write --cert OUT beside it

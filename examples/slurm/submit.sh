@@ -2,10 +2,12 @@
 # submit.sh NETLIST PARTS [OPTION VALUE]..
 # Searches a netlist as a job array of Slurm: cuts the question into PARTS parts (parts.txt),
 # submits a task for each, and a job that joins their certificates into whole.cert when all have
-# ended (join.log). The options are those of `worst`; --cert and --vcd aren't needed.
+# ended (join.log). The options are those of `worst` that have a value, and --cert-between; --cert and
+# --vcd aren't needed.
 #
 # Run it in a folder that all nodes see. Run again with the same words, it submits those parts
-# alone that have no certificate; give a greater BUDGET where some were cut short. TDELAY is the
+# alone that have no certificate; give a greater BUDGET where some were cut short. With
+# --cert-between a part that was cut short may have one, and is joined as it is. TDELAY is the
 # program, ./tdelay where it isn't set, and MOST the most tasks at a time. A partition, an account
 # and such go by Slurm's own variables, as SBATCH_PARTITION.
 set -eu
@@ -22,6 +24,7 @@ while [ $# -gt 0 ]; do
     option=$1
     shift
     case $option in
+    --cert-between) HOW="$HOW $option"; continue ;;
     --*=*) value=${option#*=} option=${option%%=*} ;;
     *)
         [ $# -gt 0 ] || { echo "submit.sh: $option has no value" >&2; exit 2; }
@@ -29,7 +32,7 @@ while [ $# -gt 0 ]; do
         shift ;;
     esac
     case $option in
-    --first | --second | --pin | --hold | --hold-input | --keep | --flips | --at)
+    --first | --second | --pin | --hold | --hold-input | --keep | --flips | --at | --required)
         ASKED="$ASKED $option $value" ;;
     --output | --default-rise | --default-fall)
         ASKED="$ASKED $option $value" READ="$READ $option $value" ;;

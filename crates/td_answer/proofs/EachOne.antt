@@ -1,7 +1,5 @@
 -- What the answer of a search says in a table.
-use Rattle.std.proofs.Common.{◌≡◌, ◌∙◌, ℕ, List, Bool, sym, is_some, ap, subst, Option, Some, slice_get}
-use Rattle.std.proofs.lemmas.Option.{slice_get_read}
-use Rattle.td_nets.specs.Netlist.{Name}
+use Rattle.std.proofs.Common.{ℕ, List}
 use Rattle.td_reading.specs.declared.reading.Reading.{Reading}
 use Rattle.td_circuit.specs.Settings.{Setting}
 use Rattle.td_domain.specs.Pairs.{Pair}
@@ -10,15 +8,14 @@ use Rattle.td_refutation.specs.Asking.{Asking, IsAskedAbout, all_admitted}
 use Rattle.td_refutation.proofs.Asking.{nothing_kept}
 use Rattle.td_search.specs.declared.answers.Answer.{Answer}
 use Rattle.td_search.specs.declared.answers.Answer.TheVariants as answer
+use Rattle.td_search.specs.declared.answers.SearchFault.{SearchFault}
 use Rattle.td_search.specs.declared.answers.SearchFault.TheVariants as failed
+use Rattle.td_search.specs.Answers.{IsSearchFault}
 use Rattle.td_search.specs.Problems.{Problem}
-use Rattle.td_worst.specs.declared.fault.WorstFault.{WorstFault}
-use Rattle.td_worst.specs.declared.fault.WorstFault.TheVariants as fault
 use Rattle.td_worst.specs.Methods.{IsSoundAnswer}
 use Rattle.td_worst.specs.declared.kept_answer.KeptAnswer.{KeptAnswer}
 use Rattle.td_worst.specs.declared.kept_answer.KeptAnswer.TheVariants as kept
 use Rattle.td_worst.specs.Kept.{IsKeptAnswer}
-use Rattle.td_worst.specs.Faults.{IsWorstFault}
 use Rattle.td_request.specs.declared.request.Search.{Search}
 use Rattle.td_question.specs.Asking.{IsAsked}
 use Rattle.td_answer.specs.declared.refusal.Refusal.{Refusal}
@@ -59,19 +56,16 @@ true_where setting asking (kept.Between best high why steps) is =
 true_where setting asking (kept.Open high why) is = is
 true_where setting asking (kept.NoPair tree) is = is
 
-pub unanswered : (search : Search) (problem : Problem) (is_timed : Bool) (reason : WorstFault) → is_timed ≡ is_some search.effort.seconds
-    → IsWorstFault is_timed problem reason → IsUnanswered search problem.admit (refusal.Search reason)
-unanswered asked_by problem is_timed (fault.Search failed.NoPair) timed none = λ pair admitted. none (pair, admitted, admitted.pinned)
-unanswered asked_by problem is_timed (fault.Search failed.OutOfMemory) timed none = tt
-unanswered asked_by problem is_timed fault.NoTimer timed none = sym timed ∙ none
+pub unanswered : (problem : Problem) (reason : SearchFault) → IsSearchFault problem reason → IsUnanswered problem.admit (refusal.Search reason)
+unanswered problem failed.NoPair none = λ pair admitted. none (pair, admitted, admitted.pinned)
+unanswered problem failed.OutOfMemory none = tt
 
 -- where the words ask about these pairs, and the search for an output has no answer
 pub refused_each : (text : List ℕ) (reading : Reading) (search : Search) (setting : Setting) (admit : Admitted) (reason : Refusal)
-    → IsAsked text reading search.question setting admit → IsUnanswered search admit reason → IsRefusedSearch text reading search reason
+    → IsAsked text reading search.question setting admit → IsUnanswered admit reason → IsRefusedSearch text reading search reason
 refused_each text reading asked_by setting admit refusal.OutOfMemory asked is = tt
-refused_each text reading asked_by setting admit (refusal.Search (fault.Search failed.NoPair)) asked is = (setting, admit, asked, is)
-refused_each text reading asked_by setting admit (refusal.Search (fault.Search failed.OutOfMemory)) asked is = tt
-refused_each text reading asked_by setting admit (refusal.Search fault.NoTimer) asked is = is
+refused_each text reading asked_by setting admit (refusal.Search failed.NoPair) asked is = (setting, admit, asked, is)
+refused_each text reading asked_by setting admit (refusal.Search failed.OutOfMemory) asked is = tt
 refused_each text reading asked_by setting admit (refusal.Unread _) asked is = elim is [ ]
 refused_each text reading asked_by setting admit (refusal.Question _) asked is = elim is [ ]
 refused_each text reading asked_by setting admit (refusal.NoOutput _) asked is = elim is [ ]

@@ -14,13 +14,13 @@ use Rattle.td_certificate.specs.declared.certificate.Claim.{Claim}
 use Rattle.td_certificate.specs.declared.tree.Node.{Node}
 use Rattle.td_certificate.specs.Lengths.{HaveFew}
 use Rattle.td_certificate.specs.Spelling.{AreConditions, AreTerms, HasSpelling}
-use Rattle.td_search.specs.declared.answers.Cause.{Cause as SearchCause}
 use Rattle.td_search.specs.Problems.{has_delay, problem_by}
 use Rattle.td_search.specs.declared.strategy.Strategy.TheVariants.{Lead}
 use Rattle.td_worst.specs.Kept.{certificate_with, claim_of, claim_to, IsCertifiedAmong as IsCertifiedWith, IsWorstAmong, LiesBetweenAmong}
 use Rattle.td_request.specs.declared.request.Search.{Search}
 use Rattle.td_question.specs.Asking.{IsAskedKeeping}
 use Rattle.td_question.proofs.Questions.{asked_flips}
+use Rattle.td_lines.specs.declared.line.Cause.{Cause}
 use Rattle.td_lines.specs.declared.line.Line.{Line}
 use Rattle.td_lines.specs.declared.line.Line.TheVariants as line
 use Rattle.td_answer.specs.declared.kept_certificate.Told.{Told}
@@ -35,8 +35,8 @@ use Rattle.td_answer.specs.Additions.{AddsLines}
 use Rattle.td_answer.specs.Kept.{HasDelayAmong, HasFigureAmong, DumpsPair, IsTrueKept, IsShownAmong, TellsClaim, IsCertifiedAmong}
 use Rattle.td_answer.specs.KeptTerms.{kept_terms}
 use Rattle.td_answer.specs.OpenCertificates.{IsWantedCertificate}
-use Rattle.td_answer.specs.Requirements.{required_lines, ending_by}
-use Rattle.td_answer.proofs.Standing.{tells, tells_bound, cause_of, cause_is}
+use Rattle.td_answer.specs.Requirements.{required_lines, cause_by, ending_by}
+use Rattle.td_answer.proofs.Standing.{tells, tells_bound}
 use Rattle.td_answer.proofs.Searched.{delay_fits}
 
 -- the pair has a bit in each vector for each input
@@ -93,7 +93,7 @@ module _ (circuit : Numbered) (admit : Admitted) (told : Told) (search : Search)
         dumped,
       ))
 
-  pub between_says : (best : Timed) (high : ℕ) (why : SearchCause) → LiesBetweenAmong (setting circuit) asking best high
+  pub between_says : (best : Timed) (high : ℕ) (why : Cause) → LiesBetweenAmong (setting circuit) asking best high
       → AddsLines (TellsPair search.shown (setting circuit) best.pair) (head_lines circuit.netlist ++ between_lines search.required best.time high why best.pair 0) outcome.report
       → outcome.status ≡ ending_by search.required status.Between best.time high → DumpsPair search (setting circuit) best.pair outcome.dump
       → IsTrueKept text reading search outcome
@@ -105,12 +105,11 @@ module _ (circuit : Numbered) (admit : Admitted) (told : Told) (search : Search)
         record {
           low = best.time;
           high = high;
-          cause = cause_of search.required best.time high why;
+          cause = cause_by search.required best.time high why;
           nodes = 0;
           required = required_lines search.required best.time high;
           more = adds.0;
-          printed = ap (λ (c : Line). line.Between best.time high ∷ c ∷ line.From best.pair.first ∷ line.To best.pair.second ∷ line.Nodes 0
-              ∷ (required_lines search.required best.time high ++ adds.0)) (cause_is search.required best.time high why);
+          printed = refl;
           has = record { asked = lies.timed.asked; delays = lies.timed.delay };
           greatest = lies.greatest;
           ordered = lies.ordered;
@@ -121,7 +120,7 @@ module _ (circuit : Numbered) (admit : Admitted) (told : Told) (search : Search)
         dumped,
       )))
 
-  pub at_most_says : (high : ℕ) (why : SearchCause) → IsBoundAmong (setting circuit) asking high
+  pub at_most_says : (high : ℕ) (why : Cause) → IsBoundAmong (setting circuit) asking high
       → outcome.report ≡ head_lines circuit.netlist ++ at_most_lines search.required high why → outcome.status ≡ ending_by search.required status.Between 0 high
       → outcome.dump ≡ None → IsTrueKept text reading search outcome
   at_most_says high why bound printed ends none =
@@ -129,9 +128,9 @@ module _ (circuit : Numbered) (admit : Admitted) (told : Told) (search : Search)
       (inr (inr (inl (
         record {
           high = high;
-          cause = cause_of search.required 0 high why;
+          cause = cause_by search.required 0 high why;
           required = required_lines search.required 0 high;
-          printed = ap (λ (c : Line). line.AtMost high ∷ c ∷ required_lines search.required 0 high) (cause_is search.required 0 high why);
+          printed = refl;
           greatest = bound;
           stands = tells_bound (IsBoundAmong (setting circuit) asking) more_bound status.Between search.required high bound;
         },
@@ -188,7 +187,7 @@ module _ (circuit : Numbered) (admit : Admitted) (told : Told) (search : Search)
 
   -- of an open answer, where it has one
   pub between_kept : AreOutputsOf text reading (option_map (λ numbers. numbers.items) told.outputs) → told.default ≡ reading.default
-      → (best : Timed) (high : ℕ) (why : SearchCause) → IfSome outcome.certificate (IsWantedCertificate search (setting circuit) admit told best high)
+      → (best : Timed) (high : ℕ) (why : Cause) → IfSome outcome.certificate (IsWantedCertificate search (setting circuit) admit told best high)
       → AddsLines (TellsPair search.shown (setting circuit) best.pair) (head_lines circuit.netlist ++ between_lines search.required best.time high why best.pair 0) outcome.report
       → IsCertifiedAmong text reading search outcome.report outcome.certificate
   between_kept are_outputs same best high why is adds = go outcome.certificate is
@@ -204,7 +203,7 @@ module _ (circuit : Numbered) (admit : Admitted) (told : Told) (search : Search)
           (shown are_outputs same has.is.spelled has.is.few (Some (claim_to best high)) has.is.tree has.is.certified, inr (has.wanted, printed))
 
   -- no certificate
-  pub open_kept : (high : ℕ) (why : SearchCause) → outcome.certificate ≡ None → outcome.report ≡ head_lines circuit.netlist ++ at_most_lines search.required high why
+  pub open_kept : (high : ℕ) (why : Cause) → outcome.certificate ≡ None → outcome.report ≡ head_lines circuit.netlist ++ at_most_lines search.required high why
       → IsCertifiedAmong text reading search outcome.report outcome.certificate
   open_kept high why none printed =
       subst (λ (c : Option Certificate). IsCertifiedAmong text reading search outcome.report c) (sym none)

@@ -3,9 +3,11 @@ pub mod OutputNets
 pub mod Adding
 pub mod Ways
 pub mod LatestBound
+pub mod LeastBound
 pub mod FirstChanges
 pub mod Judged
 pub mod Standing
+pub mod RowStanding
 pub mod Unkept
 pub mod Searched
 pub mod KeptOnes

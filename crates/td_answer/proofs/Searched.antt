@@ -23,16 +23,14 @@ use Rattle.td_checker.specs.Checks.{told_terms}
 use Rattle.td_search.specs.declared.strategy.Strategy.{Strategy}
 use Rattle.td_search.specs.declared.answers.Answer.{Answer}
 use Rattle.td_search.specs.declared.answers.Answer.TheVariants as answer
+use Rattle.td_search.specs.declared.answers.SearchFault.{SearchFault}
 use Rattle.td_search.specs.declared.answers.SearchFault.TheVariants as search
 use Rattle.td_search.specs.Problems.{Problem, problem_by, has_delay}
-use Rattle.td_search.specs.Answers.{low_of}
+use Rattle.td_search.specs.Answers.{low_of, IsSearchFault}
 use Rattle.td_search.specs.Written.{CanBeWritten}
 use Rattle.td_worst.specs.declared.method.Method.{Method}
-use Rattle.td_worst.specs.declared.fault.WorstFault.{WorstFault}
-use Rattle.td_worst.specs.declared.fault.WorstFault.TheVariants as fault
 use Rattle.td_worst.specs.Kept.{claim_to}
 use Rattle.td_worst.specs.Methods.{IsAnswerBy, IsSoundAnswer, high_of}
-use Rattle.td_worst.specs.Faults.{IsWorstFault}
 use Rattle.td_worst.proofs.Outcomes.{outcome_by}
 use Rattle.td_request.specs.declared.request.Search.{Search}
 use Rattle.td_question.specs.Asking.{IsAsked}
@@ -54,10 +52,10 @@ use Rattle.td_answer.specs.Certificates.{outputs_in, terms_in, tells_terms}
 use Rattle.td_answer.specs.Certified.{AreTermsOf, IsShown, IsCertified}
 use Rattle.td_answer.specs.KeptTerms.{kept_terms}
 use Rattle.td_answer.specs.OpenCertificates.{IsCertificateOf, IsWantedCertificate, read_of}
-use Rattle.td_answer.specs.Requirements.{required_lines}
+use Rattle.td_answer.specs.Requirements.{required_lines, cause_of, cause_by}
 use Rattle.td_answer.specs.Searches.{IsRefusedSearch}
 use Rattle.td_answer.specs.Sentences.{HasDelay, HasFigure, IsTrueWorst}
-use Rattle.td_answer.proofs.Standing.{tells, cause_of, cause_is}
+use Rattle.td_answer.proofs.Standing.{tells}
 
 -- ---- the pair of an answer
 
@@ -122,9 +120,9 @@ module _ (text : List ℕ) (reading : Reading) (asked_by : Search) (circuit : Nu
   more_bound : (one other : ℕ) → one ≤ other → IsUpperBound (setting circuit) admit one → IsUpperBound (setting circuit) admit other
   more_bound one other le is = λ pair delay admitted has. (let low = is pair delay admitted has in omega (arith, le))
 
-  figure : (budget : ℕ) (found : Answer) (more : List Line) → IsSoundAnswer problem budget found → TellsPair asked_by.shown (setting circuit) (pair_in found) more
-      → HasFigure (setting circuit) admit asked_by (pair_in found) (answer_lines asked_by.required found ++ more) (ending_of asked_by.required found)
-  figure budget (answer.Exact time pair nodes) more is tells_more = inl (record {
+  figure : (was_asked : Bool) (budget : ℕ) (found : Answer) (more : List Line) → IsSoundAnswer problem budget found → TellsPair asked_by.shown (setting circuit) (pair_in found) more
+      → HasFigure (setting circuit) admit asked_by (pair_in found) (answer_lines was_asked asked_by.required found ++ more) (ending_of asked_by.required found)
+  figure was_asked budget (answer.Exact time pair nodes) more is tells_more = inl (record {
     time = time;
     nodes = length nodes;
     required = required_lines asked_by.required time time;
@@ -136,15 +134,14 @@ module _ (text : List ℕ) (reading : Reading) (asked_by : Search) (circuit : Nu
         is.greatest (record { admitted = is.reached.0; delays = is.reached.1 });
     tells = tells_more;
   })
-  figure budget (answer.Between low high pair nodes short) more is tells_more = inr (record {
+  figure was_asked budget (answer.Between low high pair nodes short) more is tells_more = inr (record {
     low = low;
     high = high;
-    cause = cause_of asked_by.required low high short;
+    cause = cause_by asked_by.required low high (cause_of was_asked short);
     nodes = nodes;
     required = required_lines asked_by.required low high;
     more = more;
-    printed = ap (λ (c : Line). line.Between low high ∷ c ∷ line.From pair.first ∷ line.To pair.second ∷ line.Nodes nodes ∷ (required_lines asked_by.required low high ++ more))
-        (cause_is asked_by.required low high short);
+    printed = refl;
     has = record { admitted = is.reached.0; delays = is.reached.1 };
     greatest = is.greatest;
     ordered = is.ordered;
@@ -154,20 +151,20 @@ module _ (text : List ℕ) (reading : Reading) (asked_by : Search) (circuit : Nu
   })
 
   -- what a search says is true
-  pub says : (budget : ℕ) (found : Answer) (outcome : Outcome) → IsSoundAnswer problem budget found
-      → AddsLines (TellsPair asked_by.shown (setting circuit) (pair_in found)) (head_lines circuit.netlist ++ answer_lines asked_by.required found) outcome.report
+  pub says : (was_asked : Bool) (budget : ℕ) (found : Answer) (outcome : Outcome) → IsSoundAnswer problem budget found
+      → AddsLines (TellsPair asked_by.shown (setting circuit) (pair_in found)) (head_lines circuit.netlist ++ answer_lines was_asked asked_by.required found) outcome.report
       → outcome.status ≡ ending_of asked_by.required found
       → IsDumpWhere (is_some asked_by.dump) (setting circuit) (RunsPair (setting circuit) (pair_in found)) outcome.dump
       → IsTrueWorst text reading asked_by outcome
-  says budget found outcome is adds ends dumped = record {
+  says was_asked budget found outcome is adds ends dumped = record {
     setting = setting circuit;
     admit = admit;
     asked = asked;
     pair = pair_in found;
-    lines = answer_lines asked_by.required found ++ adds.0;
-    is = adds.1 ∙ append_assoc (head_lines circuit.netlist) (answer_lines asked_by.required found) adds.0;
-    figure = subst (λ (status : Status). HasFigure (setting circuit) admit asked_by (pair_in found) (answer_lines asked_by.required found ++ adds.0) status) (sym ends)
-        (figure budget found adds.0 is adds.2);
+    lines = answer_lines was_asked asked_by.required found ++ adds.0;
+    is = adds.1 ∙ append_assoc (head_lines circuit.netlist) (answer_lines was_asked asked_by.required found) adds.0;
+    figure = subst (λ (status : Status). HasFigure (setting circuit) admit asked_by (pair_in found) (answer_lines was_asked asked_by.required found ++ adds.0) status) (sym ends)
+        (figure was_asked budget found adds.0 is adds.2);
     dumped = dumped;
   }
 
@@ -211,11 +208,11 @@ module _ (text : List ℕ) (reading : Reading) (asked_by : Search) (circuit : Nu
     open_certified low high pair report None is tells_between = (low, high, tells_between)
     open_certified low high pair report (Some certificate) is tells_between = open_shown low high pair report certificate is tells_between
 
-    shown_by : (budget : ℕ) (found : Answer) (report : List Line) (more : List Line) (certificate : Option Certificate)
+    shown_by : (was_asked : Bool) (budget : ℕ) (found : Answer) (report : List Line) (more : List Line) (certificate : Option Certificate)
         → IsSoundAnswer problem budget found → CanBeWritten problem found → IsCertificateOf told problem asked_by found certificate
-        → report ≡ (head_lines circuit.netlist ++ answer_lines asked_by.required found) ++ more
+        → report ≡ (head_lines circuit.netlist ++ answer_lines was_asked asked_by.required found) ++ more
         → IsCertified text reading asked_by report certificate
-    shown_by budget (answer.Exact time pair tree) report more certificate is written kept printed =
+    shown_by was_asked budget (answer.Exact time pair tree) report more certificate is written kept printed =
         subst (λ (c : Option Certificate). IsCertified text reading asked_by report c) (sym kept.0) (record {
           netlist = circuit.netlist;
           asked = asked_so;
@@ -226,21 +223,19 @@ module _ (text : List ℕ) (reading : Reading) (asked_by : Search) (circuit : Nu
           accepted = is.accepted (terms_in by (read_of told) tree) (no_condition by (read_of told) tree);
           written = (written (terms_in by (read_of told) tree) kept.1).0;
         })
-    shown_by budget (answer.Between low high pair nodes short) report more certificate is written kept printed =
+    shown_by was_asked budget (answer.Between low high pair nodes short) report more certificate is written kept printed =
         open_certified low high pair report certificate kept
         (subst (λ (lines : List Line). Contains lines (line.Between low high)) (sym printed) (2, omega arith, refl))
 
     -- what a search keeps is a certificate of its answer
-    pub certified : (budget : ℕ) (found : Answer) (outcome : Outcome) → IsSoundAnswer problem budget found → CanBeWritten problem found
-        → AddsLines (TellsPair asked_by.shown (setting circuit) (pair_in found)) (head_lines circuit.netlist ++ answer_lines asked_by.required found) outcome.report
+    pub certified : (was_asked : Bool) (budget : ℕ) (found : Answer) (outcome : Outcome) → IsSoundAnswer problem budget found → CanBeWritten problem found
+        → AddsLines (TellsPair asked_by.shown (setting circuit) (pair_in found)) (head_lines circuit.netlist ++ answer_lines was_asked asked_by.required found) outcome.report
         → IsCertificateOf told problem asked_by found outcome.certificate
         → IsCertified text reading asked_by outcome.report outcome.certificate
-    certified budget found outcome is written adds kept = shown_by budget found outcome.report adds.0 outcome.certificate is written kept adds.1
+    certified was_asked budget found outcome is written adds kept = shown_by was_asked budget found outcome.report adds.0 outcome.certificate is written kept adds.1
 
   -- ---- no answer
 
-  pub refused : (is_timed : Bool) (reason : WorstFault) → is_timed ≡ is_some asked_by.effort.seconds → IsWorstFault is_timed problem reason
-      → IsRefusedSearch text reading asked_by (refusal.Search reason)
-  refused is_timed (fault.Search search.NoPair) timed none = (setting circuit, admit, asked, λ pair admitted. none (pair, admitted, admitted.pinned))
-  refused is_timed (fault.Search search.OutOfMemory) timed none = tt
-  refused is_timed fault.NoTimer timed none = sym timed ∙ none
+  pub refused : (reason : SearchFault) → IsSearchFault problem reason → IsRefusedSearch text reading asked_by (refusal.Search reason)
+  refused search.NoPair none = (setting circuit, admit, asked, λ pair admitted. none (pair, admitted, admitted.pinned))
+  refused search.OutOfMemory none = tt

@@ -2,16 +2,12 @@
 use Rattle.std.proofs.Common.{◌≡◌, ℕ, ◌<◌, ◌≤◌, Bool, true, false, cond, [], ◌∷◌, List, refl, arith}
 use Rattle.std.proofs.lemmas.Bool.{leb-true, ltb-true}
 use Rattle.std.specs.Prelude.{Option, Some, None, nat_le, nat_lt}
-use Rattle.td_search.specs.declared.answers.Cause.{Cause as SearchCause}
-use Rattle.td_search.specs.declared.answers.Cause.TheVariants as cause
 use Rattle.td_lines.specs.declared.line.Standing.{Standing}
 use Rattle.td_lines.specs.declared.line.Standing.TheVariants.{Met, Violated, Open}
 use Rattle.td_lines.specs.declared.line.Line.{Line}
 use Rattle.td_lines.specs.declared.line.Line.TheVariants as line
-use Rattle.td_lines.specs.declared.line.Cause.{Cause}
-use Rattle.td_lines.specs.declared.line.Cause.TheVariants as why
 use Rattle.td_answer.specs.declared.status.Status.{Status}
-use Rattle.td_answer.specs.Requirements.{is_decided, required_lines, cause_line, cause_by, ending_of_standing, ending_by, IsStanding, TellsRequired}
+use Rattle.td_answer.specs.Requirements.{required_lines, ending_of_standing, ending_by, IsStanding, TellsRequired}
 
 -- a pair has the lower figure, and none is later than the upper one
 pub tells : (bounded late : ℕ → Type 0) → ((one other : ℕ) → one ≤ other → bounded one → bounded other) → (plain : Status) (required : Option ℕ) (low high : ℕ)
@@ -41,25 +37,3 @@ tells_bound bounded more plain (Some moment) high is = go (nat_le high moment) (
     go true violated e f = (Met, refl, refl, more high moment (leb-true high moment e) is)
     go false true e f = absurd (none_before moment (ltb-true moment 0 f))
     go false false e f = (Open, refl, refl, tt)
-
--- ---- causes
-
-abbrev pub plain_cause : SearchCause → Cause
-plain_cause cause.Budget = why.Budget
-plain_cause cause.Memory = why.Memory
-plain_cause cause.Time = why.Time
-
-plain_cause_is : (found : SearchCause) → cause_line found ≡ line.Cause (plain_cause found)
-plain_cause_is cause.Budget = refl
-plain_cause_is cause.Memory = refl
-plain_cause_is cause.Time = refl
-
-abbrev pub cause_of : Option ℕ → ℕ → ℕ → SearchCause → Cause
-cause_of required low high found = cond (is_decided required low high) why.Required (plain_cause found)
-
-pub cause_is : (required : Option ℕ) (low high : ℕ) (found : SearchCause) → cause_by required low high found ≡ line.Cause (cause_of required low high found)
-cause_is required low high found = go (is_decided required low high)
-  where
-    go : (decided : Bool) → cond decided (line.Cause why.Required) (cause_line found) ≡ line.Cause (cond decided why.Required (plain_cause found))
-    go true = refl
-    go false = plain_cause_is found

@@ -13,6 +13,8 @@ use Rattle.td_refute.specs.Kept.{IsTimedAmong, IsShownAmong}
 use Rattle.td_search.specs.declared.strategy.Strategy.{Strategy}
 use Rattle.td_search.specs.Problems.{has_delay}
 use Rattle.td_worst.specs.Kept.{asking_by}
+use Rattle.td_worst.specs.declared.support.Support.{Support}
+use Rattle.td_worst.specs.Supports.{IsSupport, IsSupportAmong}
 
 module _ (given : Setting) (admit : Admitted) (keep : List NamedCondition) (bare : keep ≡ []) where
   timed_none : (strategy : Strategy) (best : Timed) → has_delay (record { setting = given; admit = admit; strategy = strategy }) best.pair best.time
@@ -26,6 +28,9 @@ module _ (given : Setting) (admit : Admitted) (keep : List NamedCondition) (bare
   shown_none : (refuted : Refuted) → IsShown given admit refuted → IsShownAmong given (asking_by admit []) refuted
   shown_none refuted is = record { steps = is.steps; bound = λ pair delay asked has. is.bound pair delay asked.admitted has }
 
-  pub shown_among : (found : Option Refuted) → IfSome found (IsShown given admit) → IfSome found (IsShownAmong given (asking_by admit keep))
+  shown_among : (found : Option Refuted) → IfSome found (IsShown given admit) → IfSome found (IsShownAmong given (asking_by admit keep))
   shown_among None is = tt
   shown_among (Some refuted) is = subst (λ (k : List NamedCondition). IsShownAmong given (asking_by admit k) refuted) (sym bare) (shown_none refuted is)
+
+  pub support_among : (support : Support) → IsSupport given admit support → IsSupportAmong given (asking_by admit keep) support
+  support_among support is = record { steps = shown_among support.steps is.steps; tree = is.tree }

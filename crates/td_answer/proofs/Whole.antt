@@ -1,7 +1,8 @@
 -- Parts that texts tell, and what they are joined into.
-use Rattle.std.proofs.Common.{◌≡◌, ◌∙◌, ◌≤◌, ℕ, Bool, true, List, [], length, take, refl, sym, ap, subst, inl, inr, arith}
-use Rattle.std.specs.Prelude.{Option, Some, None, All}
+use Rattle.std.proofs.Common.{◌≡◌, ◌∙◌, ◌≤◌, ℕ, Bool, true, false, List, [], length, take, refl, sym, ap, subst, inl, inr, arith}
+use Rattle.std.specs.Prelude.{◌==◌, if◌then◌else◌, Option, Some, None, All}
 use Rattle.std.specs.Borrow.{Bor}
+use Rattle.std.proofs.lemmas.Bool.{eqb-true, eq-eqb, cases_eq}
 use Rattle.std.proofs.lemmas.List.Elements.{All-from_recursion}
 use Rattle.td_reading.specs.declared.reading.Reading.{Reading}
 use Rattle.td_nets.specs.Netlist.{Netlist}
@@ -10,12 +11,13 @@ use Rattle.td_source.specs.Reads.{HasCircuit}
 use Rattle.td_domain.specs.declared.cubes.Trit.{Trit}
 use Rattle.td_domain.specs.Admits.{Admitted}
 use Rattle.td_circuit.specs.Settings.{Setting, AreMoments}
+use Rattle.td_circuit.specs.Run.{IsDelayOfBits}
 use Rattle.td_refutation.specs.Asking.{Asking}
 use Rattle.td_certificate.specs.declared.certificate.Certificate.{Certificate}
 use Rattle.td_certificate.specs.declared.certificate.Claim.{Claim}
 use Rattle.td_certificate.specs.declared.fault.CertFault.{CertFault}
 use Rattle.td_certificate.specs.Questions.{asking_of}
-use Rattle.td_certificate.specs.Accepts.{Accepts, setting_of, IsClaimed}
+use Rattle.td_certificate.specs.Accepts.{Accepts, setting_of, IsBoundOf, IsTrueClaim, IsClaimed}
 use Rattle.td_certificate.specs.Faults.{IsFault}
 use Rattle.td_certificate.specs.Spelling.{HasSpelling, latest}
 use Rattle.td_certificate.proofs.Acceptance.{accepted_is_true}
@@ -23,22 +25,52 @@ use Rattle.td_checker.specs.declared.verdict.CheckFault.{CheckFault}
 use Rattle.td_checker.specs.declared.verdict.CheckFault.TheVariants as check
 use Rattle.td_checker.specs.Checks.{IsCheckFault}
 use Rattle.td_checker.proofs.Texts.{accepted_read}
-use Rattle.td_join.specs.Joining.{IsJoined, IsClosedClaim}
+use Rattle.td_join.specs.Joining.{IsJoined}
 use Rattle.td_join.specs.Faults.{IsJoinFault}
 use Rattle.td_join.specs.declared.fault.JoinFault.{JoinFault}
 use Rattle.td_answer.specs.declared.refusal.Refusal.{Refusal}
 use Rattle.td_answer.specs.Differences.{AsksSame}
-use Rattle.td_answer.specs.Joins.{TellsPart, TellsNoPart, AreParts, IsUnjoinedFor, IsTrueWhole}
+use Rattle.td_answer.specs.Joins.{TellsPart, TellsNoPart, AreParts, IsUnjoinedFor, IsTrueLine, IsTrueWhole, TellsStanding}
+use Rattle.td_answer.specs.Lines.{whole_line, standing_lines, ending_of_moments, ending_of_whole}
+use Rattle.td_answer.proofs.Standing.{tells}
+use Rattle.td_lines.specs.declared.line.Line.TheVariants as line
 use Rattle.td_answer.specs.Unjoined.{IsOfPart, IsOfUnjoined, unjudged}
 use Rattle.td_answer.proofs.Zips.{zip_second}
 
--- a claim of one moment that is true
-closed_true : (setting : Setting) (asking : Asking) (claim : Option Claim) → IsClaimed setting asking claim → IsClosedClaim claim → IsTrueWhole setting asking claim
-closed_true setting asking None is closed = is
-closed_true setting asking (Some claim) is closed = (
-  (claim.pair, is.admitted, is.reached),
-  λ pair delay about delays. omega (arith, is.bounded pair delay about delays, closed),
-)
+-- the line of two moments that are true is true
+line_true : (setting : Setting) (asking : Asking) (c : Claim) → IsTrueClaim setting asking c → IsTrueLine setting asking (whole_line true c.time c.high)
+line_true setting asking c is = go (c.time == c.high) refl
+  where
+    ordered : c.time ≤ c.high
+    ordered = is.bounded c.pair c.time is.admitted is.reached
+
+    go : (same : Bool) → (c.time == c.high) ≡ same → IsTrueLine setting asking (if same then line.Exact c.time else line.Between c.time c.high)
+    go true equal = (
+      (c.pair, is.admitted, is.reached),
+      λ pair delay admitted delays. omega (arith, is.bounded pair delay admitted delays, eqb-true c.time c.high equal),
+    )
+    go false differ = (
+      (c.pair, is.admitted, is.reached),
+      elim (cases_eq c.time c.high) [
+        | inl same ↦ (let no : true ≡ false = sym (eq-eqb c.time c.high same) ∙ differ in absurd cc)
+        | inr other ↦ omega (arith, ordered, other)
+      ],
+      is.bounded,
+    )
+
+-- what is claimed is true, and so is its line
+claimed_true : (setting : Setting) (asking : Asking) (claim : Option Claim) → IsClaimed setting asking claim → IsTrueWhole setting asking claim
+claimed_true setting asking None is = is
+claimed_true setting asking (Some claim) is = (is, line_true setting asking claim is)
+
+-- what is said of a required moment is true
+pub standing_true : (setting : Setting) (asking : Asking) (required : Option ℕ) (claim : Option Claim) → IsTrueWhole setting asking claim
+    → TellsStanding setting asking required claim (standing_lines required claim) (ending_of_whole required claim)
+standing_true setting asking required None is = (refl, refl)
+standing_true setting asking required (Some claim) is =
+    tells (IsBoundOf setting asking) (IsDelayOfBits setting claim.pair.first claim.pair.second)
+    (λ one other less bound pair delay about delays. omega (arith, bound pair delay about delays, less))
+    (ending_of_moments claim.time claim.high) required claim.time claim.high is.0.bounded is.0.reached
 
 -- ---- a part
 
@@ -91,8 +123,8 @@ module _ (text : List ℕ) (reading : Reading) (netlist : Netlist) (circuit : Ha
   whole_true checked names texts parts pins whole formed are joined spelled accepted check =
       let each = parts_accepted names texts parts (subst (λ (b : Bool). AreParts text reading netlist b names texts parts) check are) in
       let is = accepted netlist each in
-      closed_true (setting_of netlist whole) (asking_of whole.question) whole.claim
-      (accepted_is_true netlist whole formed circuit.acyclic (fits whole spelled is) is) joined.whole_closed
+      claimed_true (setting_of netlist whole) (asking_of whole.question) whole.claim
+      (accepted_is_true netlist whole formed circuit.acyclic (fits whole spelled is) is)
 
 -- ---- the question
 

@@ -1,10 +1,12 @@
 -- What is true of the outcome of `bound`.
-use Rattle.std.specs.Prelude.{◌≡◌, ◌≢◌, ◌⊎◌, ℕ, ◌<◌, Bool, true, false, List, [], ◌∷◌, ◌++◌, slice_get, Option, Some}
+use Rattle.std.specs.Prelude.{◌≡◌, ◌≢◌, ◌⊎◌, ℕ, ◌<◌, ◌||◌, is_some, Bool, true, false, List, [], ◌∷◌, ◌++◌, slice_get, Option, Some, None}
 use Rattle.td_gates.specs.Wave.{Wave}
 use Rattle.td_nets.specs.Netlist.{Name, Net, Named}
 use Rattle.td_circuit.specs.Settings.{Setting}
 use Rattle.td_domain.specs.declared.cubes.Trit.{Trit}
+use Rattle.td_domain.specs.Admits.{Admitted}
 use Rattle.td_domain.specs.Bounds.{AreSignals, IsUpperBoundIn}
+use Rattle.td_domain.specs.Worst.{IsUpperBound}
 use Rattle.td_domain.specs.Functions.{Functions}
 use Rattle.td_domain.specs.Together.{both_functions}
 use Rattle.td_arrival.specs.Arrivals.{arrival_functions}
@@ -14,18 +16,21 @@ use Rattle.td_reading.specs.declared.reading.Reading.{Reading}
 use Rattle.td_certificate.specs.declared.tree.BoundedBy.{BoundedBy}
 use Rattle.td_certificate.specs.declared.tree.BoundedBy.TheVariants as by
 use Rattle.td_certificate.specs.Accepts.{IsBoundBy}
+use Rattle.td_spans.specs.Pieces.{nearest}
+use Rattle.td_request.specs.declared.question.Question.{Question}
 use Rattle.td_request.specs.declared.request.Bound.{Bound}
-use Rattle.td_question.specs.Asking.{IsCube, IsFaultOf, cube_words}
+use Rattle.td_question.specs.Asking.{IsAsked, IsQuestionFault}
 use Rattle.td_lines.specs.declared.line.Figure.TheVariants as figure
 use Rattle.td_lines.specs.declared.line.Line.{Line}
 use Rattle.td_lines.specs.declared.line.Line.TheVariants as line
+use Rattle.td_lines.specs.declared.line.Standing.TheVariants.{Met}
 use Rattle.td_answer.specs.Heads.{head_lines}
 use Rattle.td_answer.specs.Names.{label}
+use Rattle.td_answer.specs.Requirements.{bound_standing, met_lines, met_ending}
 use Rattle.td_answer.specs.Starts.{TellsStart}
 use Rattle.td_answer.specs.declared.outcome.Outcome.{Outcome}
 use Rattle.td_answer.specs.declared.refusal.Refusal.{Refusal}
 use Rattle.td_answer.specs.declared.refusal.Refusal.TheVariants as refusal
-use Rattle.td_answer.specs.declared.status.Status.TheVariants.{Done}
 
 -- the bound that a domain gives of a cube: where it is a moment, no pair of the cube has a greater
 -- delay
@@ -42,17 +47,27 @@ bound_lines arrivals possibles both =
 abbrev pub edge_lines : Option ℕ → Option ℕ → List Line
 edge_lines alone together = line.Bound figure.Edges alone ∷ line.Bound figure.EdgesAndPossibles together ∷ []
 
-pub record AreEdges (setting : Setting) (cube : List Trit) (lines : List Line) : Type 0 where
+-- the lines of the bounds by edges, and the lesser of the two
+pub record AreEdges (setting : Setting) (cube : List Trit) (least : Option ℕ) (lines : List Line) : Type 0 where
   pub alone : Option ℕ
   pub together : Option ℕ
   pub alone_is : IsSoundBound by.Edges setting cube alone
   pub together_is : IsSoundBound by.EdgesAndPossible setting cube together
+  pub least_is : least ≡ nearest alone together
   pub are : lines ≡ edge_lines alone together
 
 -- the bounds by edges are there where they are asked for, and nowhere else
-abbrev pub HasEdges : Bool → Setting → List Trit → List Line → Type 0
-HasEdges false setting cube lines = lines ≡ []
-HasEdges true setting cube lines = AreEdges setting cube lines
+abbrev pub HasEdges : Bool → Setting → List Trit → Option ℕ → List Line → Type 0
+HasEdges false setting cube least lines = (least ≡ None) × (lines ≡ [])
+HasEdges true setting cube least lines = AreEdges setting cube least lines
+
+-- they are asked for, or a moment is required
+abbrev pub asks_edges : Bound → Bool
+asks_edges asked = asked.edges || is_some asked.required
+
+-- the least of the bounds, where there is one
+abbrev pub least_of : Option ℕ → Option ℕ → Option ℕ → Option ℕ → Option ℕ
+least_of arrivals possibles both edges = nearest (nearest arrivals possibles) (nearest both edges)
 
 -- arrival windows and possible levels together
 abbrev pub together_functions : Functions (Signal × Wave)
@@ -77,31 +92,42 @@ TellsBound true setting cube bound lines =
     ((setting.netlist.outputs ≡ []) × (lines ≡ []))
     ⊎ ((output : Name) × IsLatestBound setting cube bound output × (lines ≡ line.Output (label output) ∷ []))
 
--- the report has the head, and what is told of a cube of pairs of a setting
-pub record ReportsBounds (asked : Bound) (setting : Setting) (cube : List Trit) (report : List Line) : Type 0 where
+-- the report has the head, and what is told of a cube of pairs of a setting, of whose bounds this is the
+-- least
+pub record ReportsBounds (asked : Bound) (setting : Setting) (cube : List Trit) (least : Option ℕ) (report : List Line) : Type 0 where
   pub arrivals : Option ℕ
   pub possibles : Option ℕ
   pub both : Option ℕ
   pub arrivals_is : IsSoundBound by.Arrival setting cube arrivals
   pub possibles_is : IsSoundBound by.Possible setting cube possibles
   pub both_is : IsSoundBound by.Both setting cube both
+  pub edges : Option ℕ
   pub by_edges : List Line
-  pub has_edges : HasEdges asked.edges setting cube by_edges
+  pub has_edges : HasEdges (asks_edges asked) setting cube edges by_edges
   pub named : List Line
   pub tells : TellsBound asked.outputs setting cube both named
   pub started : List Line
   pub starts : TellsStart asked.earliest setting cube started
-  pub is : report ≡ head_lines setting.netlist ++ bound_lines arrivals possibles both ++ by_edges ++ named ++ started
+  pub least_is : least ≡ least_of arrivals possibles both edges
+  pub is : report ≡ head_lines setting.netlist ++ bound_lines arrivals possibles both ++ by_edges ++ named ++ started ++ met_lines asked.required least
 
--- the report has the bounds of the cube of pairs that the request asks about
+-- the question of the request: its words are about inputs alone, and it has no file of conditions
+abbrev pub question_in : Bound → Question
+question_in asked = record { inputs = asked.inputs; flips = asked.flips; keep_file = None; keep_text = None }
+
+-- The report has the bounds of the pins of the pairs that the request asks about. The required moment,
+-- where there is one, is met where the least bound isn't later, and no admitted pair is later then;
+-- else it stays open.
 pub record IsTrueBound (text : List ℕ) (reading : Reading) (asked : Bound) (outcome : Outcome) : Type 0 where
   pub setting : Setting
-  pub cube : List Trit
-  pub about : IsCube text reading asked.inputs setting cube
-  pub report : ReportsBounds asked setting cube outcome.report
-  pub ends : outcome.status ≡ Done
+  pub admit : Admitted
+  pub about : IsAsked text reading (question_in asked) setting admit
+  pub least : Option ℕ
+  pub report : ReportsBounds asked setting admit.pins least outcome.report
+  pub met : (moment : ℕ) → bound_standing moment least ≡ Met → IsUpperBound setting admit moment
+  pub ends : outcome.status ≡ met_ending asked.required least
 
 abbrev pub IsRefusedBound : List ℕ → Reading → Bound → Refusal → Type 0
 IsRefusedBound text reading asked refusal.OutOfMemory = Unit {0}
-IsRefusedBound text reading asked (refusal.Question found) = IsFaultOf text reading asked.inputs cube_words found
+IsRefusedBound text reading asked (refusal.Question found) = IsQuestionFault text reading (question_in asked) found
 IsRefusedBound text reading asked other = ⊥

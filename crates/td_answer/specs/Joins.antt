@@ -9,9 +9,10 @@ use Rattle.td_certificate.specs.declared.certificate.Certificate.{Certificate}
 use Rattle.td_certificate.specs.declared.certificate.Claim.{Claim}
 use Rattle.td_certificate.specs.declared.fault.CertFaultKind.TheVariants as certificate_kind
 use Rattle.td_circuit.specs.Settings.{Setting}
+use Rattle.td_circuit.specs.Run.{IsDelayOfBits}
 use Rattle.td_refutation.specs.Asking.{Asking}
 use Rattle.td_certificate.specs.Questions.{asking_of, keep_by}
-use Rattle.td_certificate.specs.Accepts.{Accepts, AsksNone, IsOfSize, setting_of}
+use Rattle.td_certificate.specs.Accepts.{Accepts, AsksNone, IsBoundOf, IsTrueClaim, IsOfSize, setting_of}
 use Rattle.td_certificate.specs.Faults.{IsFault}
 use Rattle.td_certificate.specs.Spelling.{Spells, HasSpelling, version_in}
 use Rattle.td_checker.specs.declared.verdict.Verdict.TheVariants.{Accepted}
@@ -23,14 +24,17 @@ use Rattle.td_join.specs.Faults.{IsJoinFault, renamed}
 use Rattle.td_request.specs.declared.request.Join.{Join}
 use Rattle.td_question.specs.Asking.{IsAskedKeeping, IsQuestionFault}
 use Rattle.td_answer.specs.Heads.{head_lines}
-use Rattle.td_answer.specs.Lines.{whole_lines}
+use Rattle.td_answer.specs.Lines.{whole_line, whole_lines, standing_lines, ending_of_moments, ending_of_whole}
+use Rattle.td_answer.specs.Requirements.{TellsRequired}
 use Rattle.td_answer.specs.Claims.{question_lines}
 use Rattle.td_answer.specs.Differences.{DiffersIn}
 use Rattle.td_lines.specs.declared.line.Line.{Line}
-use Rattle.td_answer.specs.Verdicts.{IsWorstAsked}
+use Rattle.td_lines.specs.declared.line.Line.TheVariants as line
+use Rattle.td_answer.specs.Verdicts.{IsReached, IsWorstAsked}
 use Rattle.td_answer.specs.declared.outcome.Outcome.{Outcome}
 use Rattle.td_answer.specs.declared.refusal.Refusal.{Refusal}
 use Rattle.td_answer.specs.declared.refusal.Refusal.TheVariants as refusal
+use Rattle.td_answer.specs.declared.status.Status.{Status}
 use Rattle.td_answer.specs.declared.status.Status.TheVariants.{Done}
 
 -- the bytes of texts
@@ -89,22 +93,40 @@ pub record IsToJoin (text : List ℕ) (reading : Reading) (asked : Join) (texts 
 abbrev pub most_nodes : ℕ
 most_nodes = 10000000
 
--- what a whole claims is true: its time is the worst delay of the pairs that it asks about, or there
--- is no such pair
+-- The line is `exact T`, and T is the worst delay of the pairs that are asked about; or it is
+-- `between L H`, some such pair has the delay L, and none changes an output after H, which is later.
+abbrev pub IsTrueLine : Setting → Asking → Line → Type 0
+IsTrueLine setting asking (line.Exact time) = IsWorstAsked setting asking time
+IsTrueLine setting asking (line.Between low high) = IsReached setting asking low × (low < high) × IsBoundOf setting asking high
+IsTrueLine setting asking other = ⊥
+
+-- What a whole claims is true: of the pairs that it asks about, its pair has its time, and none
+-- changes an output after its high, and so its line is true; or there is no such pair.
 abbrev pub IsTrueWhole : Setting → Asking → Option Claim → Type 0
 IsTrueWhole setting asking None = AsksNone setting.netlist asking
-IsTrueWhole setting asking (Some claim) = IsWorstAsked setting asking claim.time
+IsTrueWhole setting asking (Some claim) = IsTrueClaim setting asking claim × IsTrueLine setting asking (whole_line true claim.time claim.high)
 
--- what it claims, and what it is about, in the lines of `check`
-abbrev pub joined_lines : Netlist → Bool → Certificate → List Line
-joined_lines netlist checked whole =
-    (head_lines netlist ++ whole_lines checked whole.claim (length whole.tree)) ++ question_lines (version_in whole) whole.question
+-- The lines say how the required moment stands, and the joining ends so: met only where no pair that
+-- is asked about is later, and violated only where the given pair is. Where no pair is claimed there
+-- is no such line.
+abbrev pub TellsStanding : Setting → Asking → Option ℕ → Option Claim → List Line → Status → Type 0
+TellsStanding setting asking required None lines ending = (lines ≡ []) × (ending ≡ Done)
+TellsStanding setting asking required (Some claim) lines ending =
+    TellsRequired (IsBoundOf setting asking) (IsDelayOfBits setting claim.pair.first claim.pair.second) (ending_of_moments claim.time claim.high) required lines ending
+
+-- what it claims, how a required moment stands, and what it is about, in the lines of `check`
+abbrev pub joined_lines : Netlist → Bool → Option ℕ → Certificate → List Line
+joined_lines netlist checked required whole =
+    ((head_lines netlist ++ whole_lines checked whole.claim (length whole.tree)) ++ standing_lines required whole.claim)
+    ++ question_lines (version_in whole) whole.question
 
 -- The parts are joined into one certificate of the question that the words ask, its pins, held
 -- inputs, flips, moments and conditions, all of it. It has a text and not too many nodes, and the report tells
--- its time and its pair, as that of a search does, or that no pair is admitted, the number of its
--- nodes, and its question. Where each part is accepted of a netlist, so is the whole. Where the
--- parts are checked, what it claims is true; where they aren't, its line is `unchecked`.
+-- its time and its pair, as that of a search does, or the two moments between which the worst delay
+-- lies, or that no pair is admitted, the number of its nodes, how a required moment stands, and its
+-- question. Where each part is accepted of a netlist, so is the whole. Where the parts are checked,
+-- what it claims is true, and what is said of a required moment; where they aren't, its line is
+-- `unchecked`.
 pub record IsJoinedTo (text : List ℕ) (reading : Reading) (asked : Join) (texts : List (List ℕ)) (outcome : Outcome) (whole : Certificate) : Type 0 where
   pub setting : Setting
   pub asking : Asking
@@ -118,8 +140,10 @@ pub record IsJoinedTo (text : List ℕ) (reading : Reading) (asked : Join) (text
   pub few : length whole.tree ≤ most_nodes
   pub accepted : (any : Netlist) → All (Accepts any) parts → Accepts any whole
   pub claims : asked.check ≡ true → IsTrueWhole (setting_of setting.netlist whole) (asking_of whole.question) whole.claim
-  pub is : outcome.report ≡ joined_lines setting.netlist asked.check whole
-  pub ends : outcome.status ≡ Done
+  pub stands : asked.check ≡ true → TellsStanding (setting_of setting.netlist whole) (asking_of whole.question) asked.required whole.claim
+      (standing_lines asked.required whole.claim) outcome.status
+  pub is : outcome.report ≡ joined_lines setting.netlist asked.check asked.required whole
+  pub ends : outcome.status ≡ ending_of_whole asked.required whole.claim
 
 -- the outcome's certificate is what they are joined to
 abbrev pub IsJoinedInto : List ℕ → Reading → Join → List (List ℕ) → Outcome → Option Certificate → Type 0

@@ -1,13 +1,13 @@
 -- The lines of the answer of a search.
-use Rattle.std.specs.Prelude.{ℕ, Bool, true, false, List, [], ◌∷◌, length, Option, Some, None}
+use Rattle.std.specs.Prelude.{ℕ, Bool, true, false, List, [], ◌∷◌, length, ◌==◌, if◌then◌else◌, Option, Some, None}
 use Rattle.td_domain.specs.Pairs.{Pair}
 use Rattle.td_certificate.specs.declared.certificate.Claim.{Claim}
-use Rattle.td_search.specs.declared.answers.Cause.{Cause}
 use Rattle.td_search.specs.declared.answers.Answer.{Answer}
 use Rattle.td_search.specs.declared.answers.Answer.TheVariants as answer
+use Rattle.td_lines.specs.declared.line.Cause.{Cause}
 use Rattle.td_lines.specs.declared.line.Line.{Line}
 use Rattle.td_lines.specs.declared.line.Line.TheVariants as line
-use Rattle.td_answer.specs.Requirements.{required_lines, cause_by, ending_by}
+use Rattle.td_answer.specs.Requirements.{required_lines, cause_of, cause_by, ending_by}
 use Rattle.td_answer.specs.declared.status.Status.{Status}
 use Rattle.td_answer.specs.declared.status.Status.TheVariants as status
 
@@ -18,21 +18,32 @@ exact_lines required time pair nodes =
 
 abbrev pub between_lines : Option ℕ → ℕ → ℕ → Cause → Pair → ℕ → List Line
 between_lines required low high cause pair nodes =
-    line.Between low high ∷ cause_by required low high cause ∷ line.From pair.first ∷ line.To pair.second ∷ line.Nodes nodes
+    line.Between low high ∷ line.Cause (cause_by required low high cause) ∷ line.From pair.first ∷ line.To pair.second ∷ line.Nodes nodes
     ∷ required_lines required low high
 
 -- where no pair is known
 abbrev pub at_most_lines : Option ℕ → ℕ → Cause → List Line
-at_most_lines required high cause = line.AtMost high ∷ cause_by required 0 high cause ∷ required_lines required 0 high
+at_most_lines required high cause = line.AtMost high ∷ line.Cause (cause_by required 0 high cause) ∷ required_lines required 0 high
 
-abbrev pub answer_lines : Option ℕ → Answer → List Line
-answer_lines required (answer.Exact time pair tree) = exact_lines required time pair (length tree)
-answer_lines required (answer.Between low high pair nodes cause) = between_lines required low high cause pair nodes
+-- of an answer, where somebody asked for the search's end, or nobody did
+abbrev pub answer_lines : Bool → Option ℕ → Answer → List Line
+answer_lines was_asked required (answer.Exact time pair tree) = exact_lines required time pair (length tree)
+answer_lines was_asked required (answer.Between low high pair nodes cause) = between_lines required low high (cause_of was_asked cause) pair nodes
 
 -- the time of a whole whose parts were checked, or weren't, and that no pair is admitted
 abbrev pub time_line : Bool → ℕ → Line
 time_line true time = line.Exact time
 time_line false time = line.Unchecked time
+
+-- the two moments of one that leaves the worst delay open
+abbrev pub open_line : Bool → ℕ → ℕ → Line
+open_line true low high = line.Between low high
+open_line false low high = line.UncheckedBetween low high
+
+-- its time, and where that isn't surely the worst delay, the moment after which no admitted pair
+-- changes an output
+abbrev pub whole_line : Bool → ℕ → ℕ → Line
+whole_line checked time high = if time == high then time_line checked time else open_line checked time high
 
 abbrev pub none_line : Bool → Line
 none_line true = line.NoPair
@@ -42,7 +53,20 @@ none_line false = line.UncheckedNone
 abbrev pub whole_lines : Bool → Option Claim → ℕ → List Line
 whole_lines checked None nodes = none_line checked ∷ line.Nodes nodes ∷ []
 whole_lines checked (Some claim) nodes =
-    time_line checked claim.time ∷ line.From claim.pair.first ∷ line.To claim.pair.second ∷ line.Nodes nodes ∷ []
+    whole_line checked claim.time claim.high ∷ line.From claim.pair.first ∷ line.To claim.pair.second ∷ line.Nodes nodes ∷ []
+
+-- the line of a required moment, where it claims a pair
+abbrev pub standing_lines : Option ℕ → Option Claim → List Line
+standing_lines required None = []
+standing_lines required (Some claim) = required_lines required claim.time claim.high
+
+-- how a joining ends: as the two moments of the whole say, or as a required moment stands
+abbrev pub ending_of_moments : ℕ → ℕ → Status
+ending_of_moments time high = if time == high then status.Done else status.Between
+
+abbrev pub ending_of_whole : Option ℕ → Option Claim → Status
+ending_of_whole required None = status.Done
+ending_of_whole required (Some claim) = ending_by required (ending_of_moments claim.time claim.high) claim.time claim.high
 
 -- the pair of an answer
 abbrev pub pair_in : Answer → Pair

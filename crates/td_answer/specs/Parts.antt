@@ -9,12 +9,10 @@ use Rattle.td_domain.specs.Admits.{Admitted, HasAdmitted}
 use Rattle.td_certificate.specs.Text.{row, trit, first_trits, second_trits}
 use Rattle.td_search.specs.Problems.{IsPart}
 use Rattle.td_search.specs.declared.answers.SearchFault.TheVariants as search
-use Rattle.td_worst.specs.declared.fault.WorstFault.TheVariants as fault
 use Rattle.td_worst.specs.Methods.{tree_of}
 use Rattle.td_join.specs.Partition.{IsPartition}
 use Rattle.td_parts.specs.Whole.{IsWhole}
 use Rattle.td_inputs.specs.Placings.{Placed, text_of}
-use Rattle.td_request.specs.declared.question.Question.{Question}
 use Rattle.td_request.specs.declared.request.Parts.{Parts}
 use Rattle.td_question.specs.Asking.{IsAsked, IsQuestionFault, SayTogether, taken_of}
 use Rattle.td_question.specs.Keeping.{keep_texts}
@@ -32,9 +30,10 @@ abbrev pub given_words : List ℕ → Option (List ℕ) → List (List ℕ)
 given_words name None = []
 given_words name (Some word) = name ∷ word ∷ []
 
-abbrev pub flips_words : Option ℕ → List (List ℕ)
-flips_words None = []
-flips_words (Some flips) = codes "--flips" ∷ decimal flips ∷ []
+-- an option and its number, where it is given
+abbrev pub number_words : List ℕ → Option ℕ → List (List ℕ)
+number_words name None = []
+number_words name (Some number) = name ∷ decimal number ∷ []
 
 -- a default delay, where it isn't that of one step
 abbrev pub default_words : List ℕ → ℕ → List (List ℕ)
@@ -45,7 +44,11 @@ pins_words pins = codes "--first" ∷ row trit (first_trits pins) ∷ codes "--s
 
 -- what the question says of the pairs of each part and of moments
 abbrev pub question_words : Placed → Option ℕ → List (List ℕ)
-question_words words flips = given_words (codes "--hold") words.hold ++ flips_words flips ++ given_words (codes "--at") words.at
+question_words words flips = given_words (codes "--hold") words.hold ++ number_words (codes "--flips") flips ++ given_words (codes "--at") words.at
+
+-- and what is required of them
+abbrev pub asked_words : Placed → Option ℕ → Option ℕ → List (List ℕ)
+asked_words words flips required = question_words words flips ++ number_words (codes "--required") required
 
 -- the option of each condition
 abbrev pub keep_options : List (List ℕ) → List (List ℕ)
@@ -74,13 +77,14 @@ reading_words reading =
     ++ outputs_words reading.outputs
 
 -- the options by which `worst` searches the part with these pins
-abbrev pub part_words : Reading → Placed → Option ℕ → List (List ℕ) → Option (List ℕ) → List Trit → List (List ℕ)
-part_words reading words flips keep file pins = pins_words pins ++ question_words words flips ++ condition_words keep file ++ reading_words reading
+abbrev pub part_words : Reading → Placed → Option ℕ → Option ℕ → List (List ℕ) → Option (List ℕ) → List Trit → List (List ℕ)
+part_words reading words flips required keep file pins =
+    pins_words pins ++ asked_words words flips required ++ condition_words keep file ++ reading_words reading
 
 -- the options of the parts of a question, with words by place that say what all its words say
-abbrev pub options_of : Reading → Question → Placed → List (List Trit) → List (List (List ℕ))
-options_of reading question words cubes =
-    map (part_words reading words question.flips (keep_texts (taken_of question.inputs)) (text_of question.keep_file)) cubes
+abbrev pub options_of : Reading → Parts → Placed → List (List Trit) → List (List (List ℕ))
+options_of reading asked words cubes =
+    map (part_words reading words asked.question.flips asked.required (keep_texts (taken_of asked.question.inputs)) (text_of asked.question.keep_file)) cubes
 
 -- the line has the options of each part
 abbrev pub HasParts : List (List (List ℕ)) → Line → Type 0
@@ -106,12 +110,12 @@ pub record IsTrueParts (text : List ℕ) (reading : Reading) (asked : Parts) (ou
   pub some : All (HasAdmitted admit) cubes
   pub inside : All (λ cube. IsPart cube admit.pins) cubes
   pub told : Line
-  pub has : HasParts (options_of reading asked.question words cubes) told
+  pub has : HasParts (options_of reading asked words cubes) told
   pub is : outcome.report ≡ told ∷ []
   pub ends : outcome.status ≡ Done
 
 abbrev pub IsRefusedParts : List ℕ → Reading → Parts → Refusal → Type 0
 IsRefusedParts text reading asked refusal.OutOfMemory = Unit {0}
 IsRefusedParts text reading asked (refusal.Question found) = IsQuestionFault text reading asked.question found
-IsRefusedParts text reading asked (refusal.Search (fault.Search search.NoPair)) = AdmitsNone text reading asked.question
+IsRefusedParts text reading asked (refusal.Search search.NoPair) = AdmitsNone text reading asked.question
 IsRefusedParts text reading asked other = ⊥

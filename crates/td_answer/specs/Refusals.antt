@@ -24,9 +24,8 @@ use Rattle.td_checker.specs.declared.verdict.CheckFault.{CheckFault}
 use Rattle.td_checker.specs.declared.verdict.CheckFault.TheVariants as check
 use Rattle.td_join.specs.declared.fault.JoinFault.{JoinFault}
 use Rattle.td_join.specs.declared.fault.JoinFault.TheVariants as join
+use Rattle.td_search.specs.declared.answers.SearchFault.{SearchFault}
 use Rattle.td_search.specs.declared.answers.SearchFault.TheVariants as search
-use Rattle.td_worst.specs.declared.fault.WorstFault.{WorstFault}
-use Rattle.td_worst.specs.declared.fault.WorstFault.TheVariants as worst
 use Rattle.td_question.specs.declared.vector.VectorWord.{VectorWord}
 use Rattle.td_question.specs.declared.vector.VectorWord.TheVariants as vector
 use Rattle.td_question.specs.declared.quote.Quote.{Quote}
@@ -127,10 +126,9 @@ question_text (question.BadKeep quote) = bad_keep_text quote
 question_text (question.NoNet name) = no_net_text name
 question_text question.LongKeepFile = codes "keep file too long"
 
-abbrev pub search_text : WorstFault → List ℕ
-search_text (worst.Search search.NoPair) = codes "no admitted pair"
-search_text (worst.Search search.OutOfMemory) = codes "out of memory"
-search_text worst.NoTimer = codes "no timer"
+abbrev pub search_text : SearchFault → List ℕ
+search_text search.NoPair = codes "no admitted pair"
+search_text search.OutOfMemory = codes "out of memory"
 
 -- the number, the name and the line of a fault of a certificate's text
 abbrev pub certificate_fault_text : CertFault → List ℕ
@@ -187,7 +185,6 @@ unjoined_text (join.OtherHold one other) = two_text one.now other.now (codes "ot
 unjoined_text (join.OtherFlips one other) = two_text one.now other.now (codes "other flips")
 unjoined_text (join.OtherMoments one other) = two_text one.now other.now (codes "other input times")
 unjoined_text (join.OtherTerms one other) = two_text one.now other.now (codes "other terms")
-unjoined_text (join.Open one) = one_text one.now (codes "open")
 unjoined_text (join.Outside one) = one_text one.now (codes "other pins")
 unjoined_text (join.Overlap one other) = two_text one.now other.now (codes "a pair in both")
 unjoined_text (join.Crossed one other) = two_text one.now other.now (codes "no position parts them")

@@ -2,10 +2,14 @@
 use Rattle.std.specs.Prelude.{◌≡◌, ℕ, ◌<◌, nat_lt, nat_le, ◌||◌, Bool, true, false, cond, List, [], ◌∷◌, Option, Some, None}
 use Rattle.td_search.specs.declared.answers.Cause.{Cause as SearchCause}
 use Rattle.td_search.specs.declared.answers.Cause.TheVariants as cause
+use Rattle.td_lines.specs.declared.line.Found.{Found}
+use Rattle.td_lines.specs.declared.line.Found.TheVariants as found
+use Rattle.td_lines.specs.declared.line.Requirement.{Requirement}
 use Rattle.td_lines.specs.declared.line.Standing.{Standing}
 use Rattle.td_lines.specs.declared.line.Standing.TheVariants.{Met, Violated, Open}
 use Rattle.td_lines.specs.declared.line.Line.{Line}
 use Rattle.td_lines.specs.declared.line.Line.TheVariants as line
+use Rattle.td_lines.specs.declared.line.Cause.{Cause}
 use Rattle.td_lines.specs.declared.line.Cause.TheVariants as why
 use Rattle.td_answer.specs.declared.status.Status.{Status}
 use Rattle.td_answer.specs.declared.status.Status.TheVariants as status
@@ -25,14 +29,15 @@ abbrev pub required_lines : Option ℕ → ℕ → ℕ → List Line
 required_lines None low high = []
 required_lines (Some moment) low high = line.Required moment (standing_of moment low high) ∷ []
 
-abbrev pub cause_line : SearchCause → Line
-cause_line cause.Budget = line.Cause why.Budget
-cause_line cause.Memory = line.Cause why.Memory
-cause_line cause.Time = line.Cause why.Time
+-- why a search ended; where its stop was set, whether somebody asked for that
+abbrev pub cause_of : Bool → SearchCause → Cause
+cause_of was_asked cause.Budget = why.Budget
+cause_of was_asked cause.Memory = why.Memory
+cause_of was_asked cause.Time = cond was_asked why.Stop why.Time
 
 -- why figures are open: what was asked of a required moment is answered, or else why the search ended
-abbrev pub cause_by : Option ℕ → ℕ → ℕ → SearchCause → Line
-cause_by required low high found = cond (is_decided required low high) (line.Cause why.Required) (cause_line found)
+abbrev pub cause_by : Option ℕ → ℕ → ℕ → Cause → Cause
+cause_by required low high found = cond (is_decided required low high) why.Required found
 
 abbrev pub ending_of_standing : Standing → Status
 ending_of_standing Met = status.Done
@@ -43,6 +48,34 @@ ending_of_standing Open = status.Between
 abbrev pub ending_by : Option ℕ → Status → ℕ → ℕ → Status
 ending_by None plain low high = plain
 ending_by (Some moment) plain low high = ending_of_standing (standing_of moment low high)
+
+-- ---- by what is found of an output
+
+abbrev pub standing_by : ℕ → Found → Standing
+standing_by moment (found.Exact time) = standing_of moment time time
+standing_by moment (found.Between low high) = standing_of moment low high
+standing_by moment (found.AtMost high) = standing_of moment 0 high
+standing_by moment found.NoPair = Met
+
+-- how a required moment stands, if there is one
+abbrev pub requirement_of : Option ℕ → Found → Option Requirement
+requirement_of None known = None
+requirement_of (Some moment) known = Some (record { moment = moment; standing = standing_by moment known })
+
+-- ---- by a bound alone
+
+-- no pair is later than the bound, if there is one; a pair that is later than the moment it can't show
+abbrev pub bound_standing : ℕ → Option ℕ → Standing
+bound_standing moment None = Open
+bound_standing moment (Some bound) = cond (nat_le bound moment) Met Open
+
+abbrev pub met_lines : Option ℕ → Option ℕ → List Line
+met_lines None bound = []
+met_lines (Some moment) bound = line.Required moment (bound_standing moment bound) ∷ []
+
+abbrev pub met_ending : Option ℕ → Option ℕ → Status
+met_ending None bound = status.Done
+met_ending (Some moment) bound = ending_of_standing (bound_standing moment bound)
 
 -- ---- what is true of it
 

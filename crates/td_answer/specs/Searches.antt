@@ -1,11 +1,10 @@
 -- Why a search has no answer.
-use Rattle.std.specs.Prelude.{◌≡◌, true, is_some, ℕ, List}
+use Rattle.std.specs.Prelude.{ℕ, List}
 use Rattle.td_reading.specs.declared.reading.Reading.{Reading}
 use Rattle.td_circuit.specs.Settings.{Setting}
 use Rattle.td_domain.specs.Pairs.{Pair}
 use Rattle.td_domain.specs.Admits.{Admitted, IsAdmitted}
 use Rattle.td_search.specs.declared.answers.SearchFault.TheVariants as search
-use Rattle.td_worst.specs.declared.fault.WorstFault.TheVariants as fault
 use Rattle.td_question.specs.Asking.{IsAsked, IsQuestionFault}
 use Rattle.td_request.specs.declared.question.Question.{Question}
 use Rattle.td_request.specs.declared.request.Search.{Search}
@@ -17,11 +16,10 @@ abbrev pub AdmitsNone : List ℕ → Reading → Question → Type 0
 AdmitsNone text reading question =
     (setting : Setting) × (admit : Admitted) × IsAsked text reading question setting admit × ((pair : Pair) → ¬ IsAdmitted admit pair)
 
--- why a search has no answer; there is no timer only where it is asked to end after some seconds
+-- why a search has no answer
 abbrev pub IsRefusedSearch : List ℕ → Reading → Search → Refusal → Type 0
 IsRefusedSearch text reading asked refusal.OutOfMemory = Unit {0}
 IsRefusedSearch text reading asked (refusal.Question found) = IsQuestionFault text reading asked.question found
-IsRefusedSearch text reading asked (refusal.Search (fault.Search search.NoPair)) = AdmitsNone text reading asked.question
-IsRefusedSearch text reading asked (refusal.Search (fault.Search search.OutOfMemory)) = Unit {0}
-IsRefusedSearch text reading asked (refusal.Search fault.NoTimer) = is_some asked.effort.seconds ≡ true
+IsRefusedSearch text reading asked (refusal.Search search.NoPair) = AdmitsNone text reading asked.question
+IsRefusedSearch text reading asked (refusal.Search search.OutOfMemory) = Unit {0}
 IsRefusedSearch text reading asked other = ⊥

@@ -4,9 +4,8 @@ use Rattle.td_source.specs.declared.fault.SourceFault.{SourceFault}
 use Rattle.td_source.specs.declared.fault.SourceFault.TheVariants as source
 use Rattle.td_question.specs.declared.fault.QuestionFault.{QuestionFault}
 use Rattle.td_question.specs.declared.fault.QuestionFault.TheVariants as question
+use Rattle.td_search.specs.declared.answers.SearchFault.{SearchFault}
 use Rattle.td_search.specs.declared.answers.SearchFault.TheVariants as search
-use Rattle.td_worst.specs.declared.fault.WorstFault.{WorstFault}
-use Rattle.td_worst.specs.declared.fault.WorstFault.TheVariants as worst
 use Rattle.td_checker.specs.declared.verdict.CheckFault.{CheckFault}
 use Rattle.td_checker.specs.declared.verdict.CheckFault.TheVariants as check
 use Rattle.td_answer.specs.declared.status.Status.{Status}
@@ -39,10 +38,9 @@ question_status (question.BadKeep word) = BadCommand
 question_status (question.NoNet name) = BadCommand
 question_status question.LongKeepFile = Refused
 
-abbrev pub search_status : WorstFault → Status
-search_status (worst.Search search.OutOfMemory) = Device
-search_status (worst.Search search.NoPair) = Refused
-search_status worst.NoTimer = Device
+abbrev pub search_status : SearchFault → Status
+search_status search.OutOfMemory = Device
+search_status search.NoPair = Refused
 
 abbrev pub check_status : CheckFault → Status
 check_status check.OutOfMemory = Device

@@ -12,26 +12,27 @@ ghost use Rattle.td_answer.specs.Findings.{kept_found};
 ghost use Rattle.td_answer.specs.Tables.{IsUnanswered};
 
 use crate::refusal::Refusal;
-use crate::worst::effort_of;
 use std::alloc::{AllocError, Global};
 use std::sync::Wait;
 use std::thread::Threads;
-use std::time::Clock;
 use td_circuit::{Circuit, Net};
 use td_domain::Admit;
 use td_lines::Found;
+use td_pool::Limits;
 use td_question::in_order;
 use td_refutation::NamedCondition;
 use td_request::Search;
 use td_spans::Form;
 use td_worst::{KeptAnswer, KeptQuestion};
 
-/// Which pairs are asked about, the admitted ones and what they keep, and by which words.
+/// Which pairs are asked about, the admitted ones and what they keep, by which words, and within
+/// which limits they are searched.
 #[derive(Clone, Copy)]
 pub(crate) struct Inquiry<'a, 'w> {
     pub(crate) admit: &'a Admit,
     pub(crate) keep: &'a [NamedCondition],
     pub(crate) search: &'a Search<'w>,
+    pub(crate) limits: Limits<'a>,
 }
 
 /// A circuit that is asked about one output alone, the number by which conditions name that
@@ -98,7 +99,7 @@ fn keep_with(
 }
 
 /// What the search answers of the pairs under which the output settles so.
-pub(crate) fn answer_where<'n, 'w, R: Threads + Wait + Clock + Sync>(
+pub(crate) fn answer_where<'n, 'w, R: Threads + Wait + Sync>(
     rt: &R,
     alloc: Global,
     alone: Alone<'_, 'w>,
@@ -109,7 +110,7 @@ pub(crate) fn answer_where<'n, 'w, R: Threads + Wait + Clock + Sync>(
     requires output { IsOnlyOutput alone.circuit.now.netlist alone.net }
     ensures answer { IfOk result (IsTrueAnswer (setting alone.entry.circuit.now)
         (where_settles (pairs_of alone.entry.inquiry) alone.entry.net settled.form)) }
-    ensures refusal { IfErr result (IsUnanswered alone.entry.inquiry.search.now alone.entry.inquiry.admit.now) }
+    ensures refusal { IfErr result (IsUnanswered alone.entry.inquiry.admit.now) }
 {
     let Alone {
         circuit,
@@ -124,7 +125,7 @@ pub(crate) fn answer_where<'n, 'w, R: Threads + Wait + Clock + Sync>(
         keep: &keep,
         required,
     };
-    let answer = td_worst::worst_kept(rt, alloc, question, effort_of(&inquiry.search.effort))?;
+    let answer = td_worst::worst_kept(rt, alloc, question, inquiry.limits)?;
     Ok(answer)
 }
 

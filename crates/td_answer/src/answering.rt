@@ -25,21 +25,24 @@ use crate::worst::worst;
 use std::alloc::Global;
 use std::sync::Wait;
 use std::thread::Threads;
-use std::time::Clock;
 use td_pool::Watch;
 use td_reading::Reading;
 use td_request::{Check, Command, Request, Search, Table};
+use td_stop::Stop;
 
-/// The outcome of a request on the texts of its files. The watch gets the progress of a search.
+/// The outcome of a request on the texts of its files. Once the stop is set, a search ends, and its
+/// outcome says what is known by then; the report gives `stop` as the cause where somebody asked
+/// for it, and `time` where nobody did. The watch gets the progress of a search.
 ///
 /// # Errors
 ///
 /// Why there is none.
-pub fn answer<'n, 'w, 'c, W: Watch, R: Threads + Wait + Clock + Sync>(
+pub fn answer<'n, 'w, 'c, W: Watch, R: Threads + Wait + Sync>(
     rt: &R,
     alloc: Global,
     request: &Request<'w>,
     texts: &Texts<'n, 'c, 'w>,
+    stop: &Stop,
     watch: &mut W,
 ) -> Result<Outcome, Refusal<'n, 'w>>
     ensures says { IfOk result (IsTrueOutcome request.now texts.now) }
@@ -53,7 +56,15 @@ pub fn answer<'n, 'w, 'c, W: Watch, R: Threads + Wait + Clock + Sync>(
     match &request.command {
         Command::Worst(search) => {
             let search = filled_search(search, texts.keep);
-            searched(rt, alloc, texts.netlist, &request.reading, &search, watch)
+            searched(
+                rt,
+                alloc,
+                texts.netlist,
+                &request.reading,
+                &search,
+                stop,
+                watch,
+            )
         }
         _ => answer_plain(alloc, request, texts),
     }
@@ -88,12 +99,13 @@ pub fn answer_plain<'n, 'w, 'c>(
     }
 }
 
-fn searched<'n, 'w, W: Watch, R: Threads + Wait + Clock + Sync>(
+fn searched<'n, 'w, W: Watch, R: Threads + Wait + Sync>(
     rt: &R,
     alloc: Global,
     text: &'n [u8],
     reading: &Reading<'_>,
     search: &Search<'w>,
+    stop: &Stop,
     watch: &mut W,
 ) -> Result<Outcome, Refusal<'n, 'w>>
     ensures says { IfOk result (IsSearchedTrue search.now.table text.now reading.now search.now) }
@@ -104,10 +116,10 @@ fn searched<'n, 'w, W: Watch, R: Threads + Wait + Clock + Sync>(
         ⊎ ((asked : Problem) × IsAsked text.now reading.now search.now.question asked.setting asked.admit × W.reported asked watch.old watch.new) }
 {
     match search.table {
-        None => worst(rt, alloc, text, reading, search, watch),
-        Some(Table::Hazards) => hazards(rt, alloc, text, reading, search),
-        Some(Table::Delays) => table(rt, alloc, text, reading, search),
-        Some(Table::Changes { .. }) => table(rt, alloc, text, reading, search),
+        None => worst(rt, alloc, text, reading, search, stop, watch),
+        Some(Table::Hazards) => hazards(rt, alloc, text, reading, search, stop),
+        Some(Table::Delays) => table(rt, alloc, text, reading, search, stop),
+        Some(Table::Changes { .. }) => table(rt, alloc, text, reading, search, stop),
     }
 }
 

@@ -5,14 +5,14 @@ ghost use Rattle.td_answer.specs.Heads.{head_lines};
 ghost use Rattle.td_answer.specs.Lines.{exact_lines, between_lines, answer_lines, ending_of, pair_in};
 
 use crate::head::begun;
-use crate::requirement::{cause_by, ending_by, push_required};
+use crate::requirement::{cause_by, cause_of, ending_by, push_required};
 use crate::status::Status;
 use std::alloc::{AllocError, Global};
 use td_certificate::Tree;
 use td_circuit::Circuit;
 use td_domain::Pair;
-use td_lines::{Line, Report, Vector};
-use td_search::{Answer, Cause};
+use td_lines::{Cause, Line, Report, Vector};
+use td_search::Answer;
 
 /// The pair of an answer.
 pub(crate) fn pair_in(answer: &Answer) -> &Pair
@@ -34,17 +34,19 @@ pub(crate) fn ending_of(required: Option<u64>, answer: &Answer) -> Status
     }
 }
 
-/// The report of an answer, where this moment is required.
+/// The report of an answer, where this moment is required, and somebody asked for the search's end
+/// or nobody did.
 pub(crate) fn report_of(
     alloc: Global,
     circuit: &Circuit,
     required: Option<u64>,
     answer: &Answer,
+    was_asked: bool,
 ) -> Result<Report, AllocError>
-    ensures { IfOk result (λ report. report ≡ head_lines circuit.now.netlist ++ answer_lines required answer.now) }
+    ensures { IfOk result (λ report. report ≡ head_lines circuit.now.netlist ++ answer_lines was_asked required answer.now) }
 {
     let mut report = begun(alloc, circuit)?;
-    push_answer(alloc, &mut report, required, answer)?;
+    push_answer(alloc, &mut report, required, answer, was_asked)?;
     Ok(report)
 }
 
@@ -53,8 +55,9 @@ fn push_answer(
     report: &mut Report,
     required: Option<u64>,
     answer: &Answer,
+    was_asked: bool,
 ) -> Result<(), AllocError>
-    ensures { OnOk result (report.new ≡ report.old ++ answer_lines required answer.now) }
+    ensures { OnOk result (report.new ≡ report.old ++ answer_lines was_asked required answer.now) }
 {
     match answer {
         Answer::Exact { time, pair, tree } => {
@@ -70,7 +73,7 @@ fn push_answer(
             let figures = Figures {
                 low: *low,
                 high: *high,
-                cause: *cause,
+                cause: cause_of(*cause, was_asked),
             };
             push_between(alloc, report, required, figures, pair, *nodes)
         }
@@ -132,7 +135,7 @@ pub(crate) fn push_between(
     let second = vector_of(alloc, pair.second())?;
     report.add(Line::Between { low, high })?;
     report.four(
-        cause_by(required, low, high, cause),
+        Line::Cause(cause_by(required, low, high, cause)),
         Line::From(first),
         Line::To(second),
         Line::Nodes(nodes),

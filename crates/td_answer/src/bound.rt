@@ -6,24 +6,25 @@ ghost use Rattle.td_circuit.specs.Numbering.{setting};
 ghost use Rattle.td_certificate.specs.declared.tree.BoundedBy.TheVariants as by;
 ghost use Rattle.td_certificate.specs.Accepts.{IsBoundBy};
 ghost use Rattle.td_answer.specs.Additions.{AddsLines};
-ghost use Rattle.td_answer.specs.Bounds.{IsSoundBound, bound_lines, AreEdges, HasEdges, TellsBound, ReportsBounds, IsTrueBound, IsRefusedBound};
+ghost use Rattle.td_answer.specs.Bounds.{IsSoundBound, bound_lines, AreEdges, HasEdges, asks_edges, least_of, TellsBound, ReportsBounds, IsTrueBound, IsRefusedBound};
 ghost use Rattle.td_answer.specs.BoundNets.{IsBoundNet, IsFirstWith};
 ghost use Rattle.td_answer.specs.Writing.{CanBeWritten};
 
 use crate::beside::output_line;
-use crate::earliest::push_earliest;
+use crate::earliest::{push_earliest, sooner};
 use crate::head::begun;
 use crate::outcome::Outcome;
 use crate::refusal::Refusal;
+use crate::requirement::{met_ending, push_met};
 use std::alloc::{AllocError, Global};
 use td_arrival::Arrival;
 use td_circuit::Circuit;
 use td_domain::{Both, Cube, Domain, bound, signals};
 use td_edges::Edges;
 use td_lines::{Figure, Line, Report};
-use td_question::cube_of;
+use td_question::question_of;
 use td_reading::Reading;
-use td_request::Bound;
+use td_request::{Bound, Question};
 use td_ternary::Possible;
 
 /// The bounds of a cube: by arrival windows, by possible levels, and by both at once.
@@ -59,39 +60,57 @@ fn push_bounds(report: &mut Report, bounds: Figures) -> Result<(), AllocError>
     report.add(Line::Bound(Figure::Both, bounds.both))
 }
 
+/// Whether the bounds by edges are asked for, or a moment is required.
+fn asks_edges(asked: &Bound<'_>) -> bool
+    ensures { result ≡ asks_edges asked.now }
+{
+    asked.edges || asked.required.is_some()
+}
+
 /// Appends the lines of the bounds by edges, alone and with possible levels, where they are asked
-/// for.
+/// for. Gives the lesser of the two.
 fn push_edges(
     alloc: Global,
     report: &mut Report,
     circuit: &Circuit,
     cube: &Cube,
     edges: bool,
-) -> Result<(), AllocError>
+) -> Result<Option<u64>, AllocError>
     requires { length cube.now ≡ 2 * length circuit.now.netlist.inputs }
-    ensures { OnOk result (AddsLines (HasEdges edges (setting circuit.now) cube.now) report.old report.new) }
+    ensures { IfOk result (λ least. AddsLines (HasEdges edges (setting circuit.now) cube.now least) report.old report.new) }
 {
     if edges {
         push_by_edges(alloc, report, circuit, cube)
     } else {
-        Ok(())
+        Ok(None)
     }
 }
 
-/// Appends the lines of the bounds by edges, alone and with possible levels.
+/// Appends the lines of the bounds by edges, alone and with possible levels. Gives the lesser of
+/// the two.
 fn push_by_edges(
     alloc: Global,
     report: &mut Report,
     circuit: &Circuit,
     cube: &Cube,
-) -> Result<(), AllocError>
+) -> Result<Option<u64>, AllocError>
     requires { length cube.now ≡ 2 * length circuit.now.netlist.inputs }
-    ensures { OnOk result (AddsLines (AreEdges (setting circuit.now) cube.now) report.old report.new) }
+    ensures { IfOk result (λ least. AddsLines (AreEdges (setting circuit.now) cube.now least) report.old report.new) }
 {
     let alone = bound::<Edges>(alloc, circuit, cube)?;
     let together = bound::<Both<Edges, Possible>>(alloc, circuit, cube)?;
     report.add(Line::Bound(Figure::Edges, alone))?;
-    report.add(Line::Bound(Figure::EdgesAndPossibles, together))
+    report.add(Line::Bound(Figure::EdgesAndPossibles, together))?;
+    Ok(sooner(alone, together))
+}
+
+/// The least of the bounds, where there is one.
+fn least_of(bounds: Figures, edges: Option<u64>) -> Option<u64>
+    ensures { result ≡ least_of bounds.arrivals bounds.possibles bounds.both edges }
+{
+    let one = sooner(bounds.arrivals, bounds.possibles);
+    let other = sooner(bounds.both, edges);
+    sooner(one, other)
 }
 
 /// The first of these nets whose signal has this last moment.
@@ -165,20 +184,26 @@ fn push_named(
     }
 }
 
-/// The report of the bounds of a cube.
+/// The report of the bounds of a cube, and the least of them.
+#[derive(Drop)]
+struct Reported {
+    report: Report,
+    least: Option<u64>,
+}
+
 fn report_of(
     alloc: Global,
     circuit: &Circuit,
     cube: &Cube,
     asked: &Bound<'_>,
-) -> Result<Report, AllocError>
+) -> Result<Reported, AllocError>
     requires { length cube.now ≡ 2 * length circuit.now.netlist.inputs }
-    ensures { IfOk result (ReportsBounds asked.now (setting circuit.now) cube.now) }
+    ensures { IfOk result (λ reported. ReportsBounds asked.now (setting circuit.now) cube.now reported.least reported.report) }
 {
     let mut report = begun(alloc, circuit)?;
     let bounds = bounds_of(alloc, circuit, cube)?;
     push_bounds(&mut report, bounds)?;
-    push_edges(alloc, &mut report, circuit, cube, asked.edges)?;
+    let edges = push_edges(alloc, &mut report, circuit, cube, asks_edges(asked))?;
     push_named(
         alloc,
         &mut report,
@@ -188,10 +213,12 @@ fn report_of(
         asked.outputs,
     )?;
     push_earliest(alloc, &mut report, circuit, cube, asked.earliest)?;
-    Ok(report)
+    let least = least_of(bounds, edges);
+    push_met(&mut report, asked.required, least)?;
+    Ok(Reported { report, least })
 }
 
-/// The bounds of the delays of the pairs that words pin.
+/// The bounds of the delays of the pairs that words admit, which are those of their pins.
 pub(crate) fn bounds<'n, 'w>(
     alloc: Global,
     text: &'n [u8],
@@ -203,7 +230,19 @@ pub(crate) fn bounds<'n, 'w>(
     ensures written { IfOk result CanBeWritten }
     ensures refusal { IfErr result (IsRefusedBound text.now reading.now asked.now) }
 {
-    let about = cube_of(alloc, text, reading, &asked.inputs)?;
-    let report = report_of(alloc, &about.circuit, &about.cube, asked)?;
-    Ok(Outcome::done(report))
+    let question = Question {
+        inputs: asked.inputs,
+        flips: asked.flips,
+        keep_file: None,
+        keep_text: None,
+    };
+    let about = question_of(alloc, text, reading, &question)?;
+    let Reported { report, least } = report_of(alloc, &about.circuit, about.admit.pins(), asked)?;
+    Ok(Outcome {
+        report,
+        certificate: None,
+        dump: None,
+        status: met_ending(asked.required, least),
+        verdict: None,
+    })
 }

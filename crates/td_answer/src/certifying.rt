@@ -12,8 +12,8 @@ use td_circuit::Circuit;
 use td_gates::{Delay, Level};
 use td_search::{Answer, Strategy, certificate_of};
 
-/// How a netlist was read: the delay of gates that state none, and the numbers of the outputs that are
-/// asked about, where some are.
+/// How a netlist was read: the delay of gates that state none, and the numbers of the outputs that
+/// are asked about, where some are.
 #[derive(Drop)]
 pub struct Read {
     pub default: Delay,

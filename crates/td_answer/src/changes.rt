@@ -13,7 +13,6 @@ use crate::refusal::Refusal;
 use std::alloc::Global;
 use std::sync::Wait;
 use std::thread::Threads;
-use std::time::Clock;
 use td_circuit::Circuit;
 use td_gates::Level;
 use td_lines::{Changes, Found};
@@ -47,7 +46,7 @@ pub(crate) fn asks_figures(table: Option<Table>) -> bool
 }
 
 /// What is found of the pairs under which the output settles so.
-fn found_where<'n, 'w, R: Threads + Wait + Clock + Sync>(
+fn found_where<'n, 'w, R: Threads + Wait + Sync>(
     rt: &R,
     alloc: Global,
     alone: Alone<'_, 'w>,
@@ -58,7 +57,7 @@ fn found_where<'n, 'w, R: Threads + Wait + Clock + Sync>(
     requires output { IsOnlyOutput alone.circuit.now.netlist alone.net }
     ensures found { IfOk result (IsTrueFound (setting alone.entry.circuit.now)
         (where_settles (pairs_of alone.entry.inquiry) alone.entry.net settled.form)) }
-    ensures refusal { IfErr result (IsUnanswered alone.entry.inquiry.search.now alone.entry.inquiry.admit.now) }
+    ensures refusal { IfErr result (IsUnanswered alone.entry.inquiry.admit.now) }
 {
     let answer = answer_where(rt, alloc, alone, settled)?;
     Ok(kept_found(&answer))
@@ -70,7 +69,7 @@ fn required_of(table: Option<Table>) -> Option<u64> {
 }
 
 /// The changes of the output.
-fn changes_of<'n, 'w, R: Threads + Wait + Clock + Sync>(
+fn changes_of<'n, 'w, R: Threads + Wait + Sync>(
     rt: &R,
     alloc: Global,
     alone: Alone<'_, 'w>,
@@ -79,7 +78,7 @@ fn changes_of<'n, 'w, R: Threads + Wait + Clock + Sync>(
     requires fit { are_fit (count_nets alone.circuit.now.netlist) alone.inquiry.keep.now ≡ true }
     requires output { IsOnlyOutput alone.circuit.now.netlist alone.net }
     ensures changes { IfOk result (AreTrueChanges (setting alone.entry.circuit.now) (pairs_of alone.entry.inquiry)) }
-    ensures refusal { IfErr result (IsUnanswered alone.entry.inquiry.search.now alone.entry.inquiry.admit.now) }
+    ensures refusal { IfErr result (IsUnanswered alone.entry.inquiry.admit.now) }
 {
     let rising = Settled {
         form: RISING,
@@ -100,7 +99,7 @@ fn changes_of<'n, 'w, R: Threads + Wait + Clock + Sync>(
 }
 
 /// The changes of the output that a circuit is asked about alone, where they are asked for.
-pub(crate) fn changes_in<'n, 'w, R: Threads + Wait + Clock + Sync>(
+pub(crate) fn changes_in<'n, 'w, R: Threads + Wait + Sync>(
     rt: &R,
     alloc: Global,
     circuit: &Circuit,
@@ -110,7 +109,7 @@ pub(crate) fn changes_in<'n, 'w, R: Threads + Wait + Clock + Sync>(
     requires fit { are_fit (count_nets circuit.now.netlist) inquiry.keep.now ≡ true }
     requires output { length circuit.now.netlist.outputs ≡ 1 }
     ensures changes { IfOk result (HasChanges inquiry.entry.search.now.table (setting circuit.now) (pairs_of inquiry.entry)) }
-    ensures refusal { IfErr result (IsUnanswered inquiry.entry.search.now inquiry.entry.admit.now) }
+    ensures refusal { IfErr result (IsUnanswered inquiry.entry.admit.now) }
 {
     if !asks_changes(inquiry.search.table) {
         return Ok(None);

@@ -12,7 +12,7 @@ ghost use Rattle.td_answer.specs.Bounds.{IsSoundBound};
 ghost use Rattle.td_answer.specs.Searches.{IsRefusedSearch};
 ghost use Rattle.td_answer.specs.Columns.{pairs_of};
 ghost use Rattle.td_answer.specs.Findings.{found_of};
-ghost use Rattle.td_answer.specs.Tables.{table_ending, AreTrueFigures, IsTrueRow, AreEach, IsUnanswered, IsTrueTable};
+ghost use Rattle.td_answer.specs.Tables.{is_open, is_late, is_settled, is_violated, any_violated, open_ending, table_ending, AreTrueFigures, IsTrueRow, AreEach, IsUnanswered, IsTrueTable};
 ghost use Rattle.td_answer.specs.Writing.{CanBeWritten};
 
 use crate::alone::{Inquiry, kept_found};
@@ -21,22 +21,23 @@ use crate::head::begun;
 use crate::names::label;
 use crate::outcome::Outcome;
 use crate::refusal::Refusal;
+use crate::requirement::requirement_of;
 use crate::status::Status;
-use crate::worst::{effort_of, method_of};
+use crate::worst::{limits_of, method_of};
 use std::alloc::{AllocError, Global};
 use std::sync::Wait;
 use std::thread::Threads;
-use std::time::Clock;
 use td_circuit::Circuit;
 use td_domain::{Cube, bound};
 use td_edges::Edges;
-use td_lines::{Found, Line, Report, Row};
+use td_lines::{Found, Line, Report, Requirement, Row, Standing};
 use td_pool::Unwatched;
 use td_question::{Asked, question_of};
 use td_reading::Reading;
 use td_request::Search;
 use td_search::Answer;
 use td_source::EachOutput;
+use td_stop::Stop;
 use td_worst::{KeptAnswer, KeptQuestion, Question};
 
 /// What is found of an output: its worst delay, and its bound by edges.
@@ -69,7 +70,7 @@ fn edges_of(alloc: Global, circuit: &Circuit, cube: &Cube) -> Result<Option<u64>
 }
 
 /// What is found of the pairs of a circuit that are asked about.
-fn timing_of<'n, 'w, R: Threads + Wait + Clock + Sync>(
+fn timing_of<'n, 'w, R: Threads + Wait + Sync>(
     rt: &R,
     alloc: Global,
     circuit: &Circuit,
@@ -78,23 +79,23 @@ fn timing_of<'n, 'w, R: Threads + Wait + Clock + Sync>(
     requires held { length inquiry.admit.now.held ≡ length circuit.now.netlist.inputs }
     requires fit { are_fit (count_nets circuit.now.netlist) inquiry.keep.now ≡ true }
     ensures timing { IfOk result (λ timing. AreTrueFigures (setting circuit.now) (pairs_of inquiry.entry) timing.found timing.edges) }
-    ensures refusal { IfErr result (IsUnanswered inquiry.entry.search.now inquiry.entry.admit.now) }
+    ensures refusal { IfErr result (IsUnanswered inquiry.entry.admit.now) }
 {
     let Inquiry {
         admit,
         keep,
         search,
+        limits,
     } = inquiry;
     let edges = edges_of(alloc, circuit, admit.pins())?;
     if !keep.is_empty() {
-        let effort = effort_of(&search.effort);
         let question = KeptQuestion {
             circuit,
             admit,
             keep,
-            required: None,
+            required: search.required,
         };
-        let answer = td_worst::worst_kept(rt, alloc, question, effort)?;
+        let answer = td_worst::worst_kept(rt, alloc, question, limits)?;
         return Ok(Timing {
             found: kept_found(&answer),
             edges,
@@ -104,10 +105,9 @@ fn timing_of<'n, 'w, R: Threads + Wait + Clock + Sync>(
         circuit,
         admit,
         method: method_of(search.strategy),
-        required: None,
+        required: search.required,
     };
-    let effort = effort_of(&search.effort);
-    let found = td_worst::worst(rt, alloc, question, effort, &mut Unwatched)?;
+    let found = td_worst::worst(rt, alloc, question, limits, &mut Unwatched)?;
     Ok(Timing {
         found: found_of(&found.answer),
         edges,
@@ -115,7 +115,7 @@ fn timing_of<'n, 'w, R: Threads + Wait + Clock + Sync>(
 }
 
 /// The row of the output at this place, which is asked about alone.
-fn row_of<'n, 'w, R: Threads + Wait + Clock + Sync>(
+fn row_of<'n, 'w, R: Threads + Wait + Sync>(
     rt: &R,
     alloc: Global,
     outputs: &mut EachOutput,
@@ -126,25 +126,27 @@ fn row_of<'n, 'w, R: Threads + Wait + Clock + Sync>(
     requires held { length inquiry.admit.now.held ≡ length outputs.old.whole.netlist.inputs }
     requires fit { are_fit (count_nets outputs.old.whole.netlist) inquiry.keep.now ≡ true }
     ensures row { IfOk result (λ row. (output : Named) → slice_get outputs.old.whole.netlist.outputs place ≡ Some output
-        → IsTrueRow (setting outputs.old.whole) (pairs_of inquiry.entry) inquiry.entry.search.now.table output row) }
+        → IsTrueRow (setting outputs.old.whole) (pairs_of inquiry.entry) inquiry.entry.search.now output row) }
     ensures whole { outputs.new.whole ≡ outputs.old.whole }
-    ensures refusal { IfErr result (IsUnanswered inquiry.entry.search.now inquiry.entry.admit.now) }
+    ensures refusal { IfErr result (IsUnanswered inquiry.entry.admit.now) }
 {
     let output = label(alloc, &outputs.names()[place])?;
     outputs.ask(alloc, place)?;
     let circuit = outputs.circuit();
     let Timing { found, edges } = timing_of(rt, alloc, circuit, inquiry)?;
     let changes = changes_in(rt, alloc, circuit, inquiry)?;
+    let required = requirement_of(inquiry.search.required, found);
     Ok(Row {
         output,
         found,
         edges,
         changes,
+        required,
     })
 }
 
 /// A row for each output, in order.
-fn rows<'n, 'w, R: Threads + Wait + Clock + Sync>(
+fn rows<'n, 'w, R: Threads + Wait + Sync>(
     rt: &R,
     alloc: Global,
     outputs: &mut EachOutput,
@@ -152,9 +154,9 @@ fn rows<'n, 'w, R: Threads + Wait + Clock + Sync>(
 ) -> Result<Vec<Row>, Refusal<'n, 'w>>
     requires held { length inquiry.admit.now.held ≡ length outputs.old.whole.netlist.inputs }
     requires fit { are_fit (count_nets outputs.old.whole.netlist) inquiry.keep.now ≡ true }
-    ensures rows { IfOk result (λ rows. AllZip (IsTrueRow (setting outputs.old.whole) (pairs_of inquiry.entry) inquiry.entry.search.now.table)
+    ensures rows { IfOk result (λ rows. AllZip (IsTrueRow (setting outputs.old.whole) (pairs_of inquiry.entry) inquiry.entry.search.now)
         outputs.old.whole.netlist.outputs rows.items) }
-    ensures refusal { IfErr result (IsUnanswered inquiry.entry.search.now inquiry.entry.admit.now) }
+    ensures refusal { IfErr result (IsUnanswered inquiry.entry.admit.now) }
 {
     let count = outputs.names().len();
     let mut rows = Vec::new(alloc);
@@ -165,16 +167,77 @@ fn rows<'n, 'w, R: Threads + Wait + Clock + Sync>(
     Ok(rows)
 }
 
-/// How a table ends: some search was cut short, or nothing is left open.
-fn ending(figures: bool, rows: &[Row]) -> Status
-    ensures { result ≡ table_ending figures rows.now }
+fn is_open(standing: Standing) -> bool
+    ensures { result ≡ is_open standing }
+{
+    match standing {
+        Standing::Met | Standing::Violated => false,
+        Standing::Open => true,
+    }
+}
+
+fn is_late(standing: Standing) -> bool
+    ensures { result ≡ is_late standing }
+{
+    match standing {
+        Standing::Met | Standing::Open => false,
+        Standing::Violated => true,
+    }
+}
+
+/// Whether it is known how the required moment stands, or else the figure is.
+fn is_settled(required: Option<Requirement>, found: Found) -> bool
+    ensures { result ≡ is_settled required found }
+{
+    match required {
+        None => is_closed(found),
+        Some(required) => !is_open(required.standing),
+    }
+}
+
+/// Whether the output of a row is later than the required moment.
+fn is_violated(required: Option<Requirement>) -> bool
+    ensures { result ≡ is_violated required }
+{
+    match required {
+        None => false,
+        Some(required) => is_late(required.standing),
+    }
+}
+
+/// Whether some output is later than the required moment.
+fn any_violated(rows: &[Row]) -> bool
+    ensures { result ≡ any_violated rows.now }
 {
     for row in rows {
-        if !(is_closed(row.found) && are_closed(figures, &row.changes)) {
+        if is_violated(row.required) {
+            return true;
+        }
+    }
+    false
+}
+
+/// Whether some search was cut short, or nothing is left open.
+fn open_ending(figures: bool, rows: &[Row]) -> Status
+    ensures { result ≡ open_ending figures rows.now }
+{
+    for row in rows {
+        if !(is_settled(row.required, row.found) && are_closed(figures, &row.changes)) {
             return Status::Between;
         }
     }
     Status::Done
+}
+
+/// How a table ends: the required moment is violated, or some search was cut short, or nothing is
+/// left open.
+fn ending(figures: bool, rows: &[Row]) -> Status
+    ensures { result ≡ table_ending figures rows.now }
+{
+    if any_violated(rows) {
+        return Status::Violated;
+    }
+    open_ending(figures, rows)
 }
 
 /// Appends the rows, where there are any.
@@ -188,12 +251,13 @@ fn push_rows(report: &mut Report, rows: Vec<Row>) -> Result<(), AllocError>
 }
 
 /// The table of what a request asks of a text: a row for each output, which is asked about alone.
-pub(crate) fn table<'n, 'w, R: Threads + Wait + Clock + Sync>(
+pub(crate) fn table<'n, 'w, R: Threads + Wait + Sync>(
     rt: &R,
     alloc: Global,
     text: &'n [u8],
     reading: &Reading<'_>,
     search: &Search<'w>,
+    stop: &Stop,
 ) -> Result<Outcome, Refusal<'n, 'w>>
     ensures says { IfOk result (IsTrueTable text.now reading.now search.now) }
     ensures certified { IfOk result (λ outcome. outcome.certificate ≡ Nothing) }
@@ -212,6 +276,7 @@ pub(crate) fn table<'n, 'w, R: Threads + Wait + Clock + Sync>(
         admit: &admit,
         keep: &keep,
         search,
+        limits: limits_of(&search.effort, stop),
     };
     let rows = rows(rt, alloc, &mut outputs, inquiry)?;
     let status = ending(asks_figures(search.table), &rows);

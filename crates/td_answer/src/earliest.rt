@@ -24,7 +24,7 @@ fn first_change(signal: &Signal) -> Option<u64>
 }
 
 /// The sooner of two moments, where there are any.
-fn sooner(one: Option<u64>, other: Option<u64>) -> Option<u64>
+pub(crate) fn sooner(one: Option<u64>, other: Option<u64>) -> Option<u64>
     ensures { result ≡ nearest one other }
 {
     match (one, other) {

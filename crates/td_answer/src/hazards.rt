@@ -25,10 +25,10 @@ use crate::names::label;
 use crate::outcome::Outcome;
 use crate::refusal::Refusal;
 use crate::status::Status;
+use crate::worst::limits_of;
 use std::alloc::{AllocError, Global};
 use std::sync::Wait;
 use std::thread::Threads;
-use std::time::Clock;
 use td_domain::Pair;
 use td_gates::Level;
 use td_lead::Timed;
@@ -38,6 +38,7 @@ use td_reading::Reading;
 use td_request::Search;
 use td_source::EachOutput;
 use td_spans::Form;
+use td_stop::Stop;
 use td_worst::KeptAnswer;
 
 /// An output settles at this level under both vectors: at 1, or at 0.
@@ -93,7 +94,7 @@ fn hazard_in(alloc: Global, answer: &KeptAnswer) -> Result<Hazard, AllocError>
 }
 
 /// The hazard of the output at a level.
-fn hazard_at<'n, 'w, R: Threads + Wait + Clock + Sync>(
+fn hazard_at<'n, 'w, R: Threads + Wait + Sync>(
     rt: &R,
     alloc: Global,
     alone: Alone<'_, 'w>,
@@ -104,7 +105,7 @@ fn hazard_at<'n, 'w, R: Threads + Wait + Clock + Sync>(
     requires output { IsOnlyOutput alone.circuit.now.netlist alone.net }
     ensures hazard { IfOk result (IsTrueHazard (setting alone.entry.circuit.now)
         (where_settles (pairs_of alone.entry.inquiry) alone.entry.net (settles_at level))) }
-    ensures refusal { IfErr result (IsUnanswered alone.entry.inquiry.search.now alone.entry.inquiry.admit.now) }
+    ensures refusal { IfErr result (IsUnanswered alone.entry.inquiry.admit.now) }
 {
     let settled = Settled {
         form: settles_at(level),
@@ -123,7 +124,7 @@ struct Both {
 }
 
 /// The rows of the output at this place, which is asked about alone.
-fn both_of<'n, 'w, R: Threads + Wait + Clock + Sync>(
+fn both_of<'n, 'w, R: Threads + Wait + Sync>(
     rt: &R,
     alloc: Global,
     outputs: &mut EachOutput,
@@ -137,7 +138,7 @@ fn both_of<'n, 'w, R: Threads + Wait + Clock + Sync>(
         → IsTrueHazardRow (setting outputs.old.whole) (pairs_of inquiry.entry) (output, false) both.low
         × IsTrueHazardRow (setting outputs.old.whole) (pairs_of inquiry.entry) (output, true) both.high) }
     ensures whole { outputs.new.whole ≡ outputs.old.whole }
-    ensures refusal { IfErr result (IsUnanswered inquiry.entry.search.now inquiry.entry.admit.now) }
+    ensures refusal { IfErr result (IsUnanswered inquiry.entry.admit.now) }
 {
     let low_output = label(alloc, &outputs.names()[place])?;
     let high_output = label(alloc, &outputs.names()[place])?;
@@ -165,7 +166,7 @@ fn both_of<'n, 'w, R: Threads + Wait + Clock + Sync>(
 }
 
 /// Two rows for each output, in order.
-fn rows<'n, 'w, R: Threads + Wait + Clock + Sync>(
+fn rows<'n, 'w, R: Threads + Wait + Sync>(
     rt: &R,
     alloc: Global,
     outputs: &mut EachOutput,
@@ -175,7 +176,7 @@ fn rows<'n, 'w, R: Threads + Wait + Clock + Sync>(
     requires fit { are_fit (count_nets outputs.old.whole.netlist) inquiry.keep.now ≡ true }
     ensures rows { IfOk result (λ rows. AllZip (IsTrueHazardRow (setting outputs.old.whole) (pairs_of inquiry.entry))
         (all_at_both outputs.old.whole.netlist.outputs) rows.items) }
-    ensures refusal { IfErr result (IsUnanswered inquiry.entry.search.now inquiry.entry.admit.now) }
+    ensures refusal { IfErr result (IsUnanswered inquiry.entry.admit.now) }
 {
     let count = outputs.names().len();
     let mut rows = Vec::new(alloc);
@@ -220,12 +221,13 @@ fn push_rows(report: &mut Report, rows: Vec<HazardRow>) -> Result<(), AllocError
 }
 
 /// The hazards of each output of what a request asks of a text, which is asked about alone.
-pub(crate) fn hazards<'n, 'w, R: Threads + Wait + Clock + Sync>(
+pub(crate) fn hazards<'n, 'w, R: Threads + Wait + Sync>(
     rt: &R,
     alloc: Global,
     text: &'n [u8],
     reading: &Reading<'_>,
     search: &Search<'w>,
+    stop: &Stop,
 ) -> Result<Outcome, Refusal<'n, 'w>>
     ensures says { IfOk result (AreTrueHazards text.now reading.now search.now) }
     ensures certified { IfOk result (λ outcome. outcome.certificate ≡ Nothing) }
@@ -244,6 +246,7 @@ pub(crate) fn hazards<'n, 'w, R: Threads + Wait + Clock + Sync>(
         admit: &admit,
         keep: &keep,
         search,
+        limits: limits_of(&search.effort, stop),
     };
     let rows = rows(rt, alloc, &mut outputs, inquiry)?;
     let status = ending(&rows);

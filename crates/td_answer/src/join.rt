@@ -15,10 +15,9 @@ ghost use Rattle.td_answer.specs.Writing.{CanBeWritten};
 use crate::difference::differing;
 use crate::filled::with_text;
 use crate::gathering::parts_in;
-use crate::joined::joined;
+use crate::joined::{ending_of_whole, joined};
 use crate::outcome::Outcome;
 use crate::refusal::Refusal;
-use crate::status::Status;
 use crate::texts::Texts;
 use std::alloc::Global;
 use td_certificate::Certificate;
@@ -59,7 +58,6 @@ fn named<'w>(fault: JoinFault<usize>, names: &[&'w str]) -> JoinFault<&'w str>
         JoinFault::OtherTerms(this, that) => {
             JoinFault::OtherTerms(name_at(names, this), name_at(names, that))
         }
-        JoinFault::Open(this) => JoinFault::Open(name_at(names, this)),
         JoinFault::Outside(this) => JoinFault::Outside(name_at(names, this)),
         JoinFault::Overlap(this, that) => {
             JoinFault::Overlap(name_at(names, this), name_at(names, that))
@@ -138,12 +136,13 @@ pub(crate) fn join<'n, 'w>(
         texts.certificates,
     )?;
     let whole = whole_of(alloc, parts, &sought, names)?;
-    let report = joined(alloc, &sought.circuit, asked.check, &whole)?;
+    let report = joined(alloc, &sought.circuit, asked.check, asked.required, &whole)?;
+    let status = ending_of_whole(asked.required, &whole.claim);
     Ok(Outcome {
         report,
         certificate: Some(whole),
         dump: None,
-        status: Status::Done,
+        status,
         verdict: None,
     })
 }

@@ -2,7 +2,7 @@
 
 ghost use Rattle.std.specs.Prelude.{◌≡◌, ◌+◌, ◌≤◌, ◌∷◌, ◌++◌, [], ℕ, true, List, length, is_some, option_map, Some, None as Nothing, IfOk, IfErr, IfSome};
 ghost use Rattle.td_circuit.specs.Numbering.{setting};
-ghost use Rattle.td_refute.specs.Kept.{IsTimedAmong, IsShownAmong as IsShownBy};
+ghost use Rattle.td_refute.specs.Kept.{IsTimedAmong};
 ghost use Rattle.td_certificate.specs.Accepts.{are_fit};
 ghost use Rattle.td_certificate.specs.Lengths.{HaveFew};
 ghost use Rattle.td_certificate.specs.Spelling.{AreConditions, AreTerms};
@@ -11,6 +11,7 @@ ghost use Rattle.td_question.specs.Asking.{IsAsked, IsAskedKeeping, keep_quotes}
 ghost use Rattle.td_question.specs.Keeping.{AreConditions as AreConditionsOf};
 ghost use Rattle.td_source.specs.Reads.{AreOutputsOf};
 ghost use Rattle.td_worst.specs.Kept.{asking_by, certificate_with, claim_of, IsKeptAnswer};
+ghost use Rattle.td_worst.specs.Supports.{IsSupportAmong};
 ghost use Rattle.td_lines.specs.declared.line.Line.TheVariants as line;
 ghost use Rattle.td_answer.specs.Heads.{head_lines};
 ghost use Rattle.td_answer.specs.Lines.{exact_lines, between_lines, at_most_lines, whole_lines};
@@ -33,23 +34,22 @@ use crate::kept_certificate::{Told, kept_certificate};
 use crate::open_certificate::{Open, open_certificate};
 use crate::outcome::Outcome;
 use crate::refusal::Refusal;
-use crate::requirement::{cause_by, ending_by, push_required};
+use crate::requirement::{cause_by, cause_of, ending_by, push_required};
 use crate::status::Status;
-use crate::worst::{dump_of, effort_of};
+use crate::worst::{dump_of, limits_of};
 use std::alloc::{AllocError, Global};
 use std::sync::Wait;
 use std::thread::Threads;
-use std::time::Clock;
 use td_certificate::{Claim, Tree};
 use td_circuit::Circuit;
 use td_domain::Admit;
 use td_lead::Timed;
-use td_lines::Line;
+use td_lines::{Cause, Line};
 use td_question::Asked;
 use td_reading::Reading;
 use td_request::Search;
-use td_search::Cause;
-use td_worst::{KeptAnswer, KeptQuestion};
+use td_stop::Stop;
+use td_worst::{KeptAnswer, KeptQuestion, Support};
 
 // The outcome of an exact answer.
 fn exact(
@@ -110,7 +110,7 @@ fn between(
     requires second_fits { length known.best.pair.second ≡ length circuit.netlist.inputs }
     requires timed { IsTimedAmong (setting circuit) (asking_by admit told.keep.items) known.best }
     requires ordered { known.best.time ≤ known.high }
-    requires shown { IfSome known.refuted (IsShownBy (setting circuit) (asking_by admit told.keep.items)) }
+    requires shown { IsSupportAmong (setting circuit) (asking_by admit told.keep.items) known.support }
     ensures report { IfOk result (λ outcome. AddsLines (TellsPair search.now.shown (setting circuit) known.best.pair)
         (head_lines circuit.netlist ++ between_lines search.now.required known.best.time known.high why known.best.pair 0) outcome.report) }
     ensures certificate { IfOk result (λ outcome. IfSome outcome.certificate (IsWantedCertificate search.now (setting circuit) admit told known.best known.high)) }
@@ -155,7 +155,7 @@ fn at_most(
     let required = search.required;
     let mut report = begun(alloc, circuit)?;
     report.add(Line::AtMost(high))?;
-    report.add(cause_by(required, 0, high, why))?;
+    report.add(Line::Cause(cause_by(required, 0, high, why)))?;
     push_required(&mut report, required, 0, high)?;
     Ok(Outcome {
         report,
@@ -202,6 +202,7 @@ fn outcome_of(
     told: Told,
     answer: KeptAnswer,
     search: &Search<'_>,
+    was_asked: bool,
 ) -> Result<Outcome, AllocError>
     requires held { length admit.held ≡ length circuit.netlist.inputs }
     requires flips { admit.flips ≤ length admit.held }
@@ -227,16 +228,19 @@ fn outcome_of(
             cause,
             refuted,
         } => {
+            let support = Support::by_steps(refuted);
             let known = Open {
                 best,
                 high,
-                refuted,
+                support,
             };
-            let lying = between(alloc, circuit, admit, told, known, cause, search)?;
+            let why = cause_of(cause, was_asked);
+            let lying = between(alloc, circuit, admit, told, known, why, search)?;
             Ok(lying)
         }
         KeptAnswer::Open { high, cause } => {
-            let bounded = at_most(alloc, &circuit, high, cause, search)?;
+            let why = cause_of(cause, was_asked);
+            let bounded = at_most(alloc, &circuit, high, why, search)?;
             Ok(bounded)
         }
         KeptAnswer::NoPair { tree } => {
@@ -247,13 +251,14 @@ fn outcome_of(
 }
 
 /// The search for the worst delay of the pairs that keep the conditions that are asked for.
-pub(crate) fn worst_kept<'n, 'w, R: Threads + Wait + Clock + Sync>(
+pub(crate) fn worst_kept<'n, 'w, R: Threads + Wait + Sync>(
     rt: &R,
     alloc: Global,
     asked: Asked,
     text: &[u8],
     reading: &Reading<'_>,
     search: &Search<'w>,
+    stop: &Stop,
 ) -> Result<Outcome, Refusal<'n, 'w>>
     requires asked { IsAsked text.now reading.now search.now.question (setting asked.circuit) asked.admit }
     requires outputs { AreOutputsOf text.now reading.now (option_map (λ numbers. numbers.items) asked.outputs) }
@@ -270,19 +275,20 @@ pub(crate) fn worst_kept<'n, 'w, R: Threads + Wait + Clock + Sync>(
         keep,
         ..
     } = asked;
-    let effort = effort_of(&search.effort);
     let question = KeptQuestion {
         circuit: &circuit,
         admit: &admit,
         keep: &keep,
         required: search.required,
     };
-    let answer = td_worst::worst_kept(rt, alloc, question, effort)?;
+    let limits = limits_of(&search.effort, stop);
+    let answer = td_worst::worst_kept(rt, alloc, question, limits)?;
+    let was_asked = stop.was_asked();
     let told = Told {
         default: reading.default,
         outputs,
         keep,
     };
-    let outcome = outcome_of(alloc, circuit, admit, told, answer, search)?;
+    let outcome = outcome_of(alloc, circuit, admit, told, answer, search, was_asked)?;
     Ok(outcome)
 }

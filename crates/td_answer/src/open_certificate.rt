@@ -3,8 +3,9 @@
 ghost use Rattle.std.specs.Prelude.{◌≡◌, ◌+◌, ◌≤◌, true, length, Some, IfSome};
 ghost use Rattle.td_circuit.specs.Numbering.{setting};
 ghost use Rattle.td_certificate.specs.Accepts.{are_fit};
-ghost use Rattle.td_refute.specs.Kept.{IsTimedAmong, IsShownAmong};
+ghost use Rattle.td_refute.specs.Kept.{IsTimedAmong};
 ghost use Rattle.td_worst.specs.Kept.{asking_by};
+ghost use Rattle.td_worst.specs.Supports.{IsSupportAmong};
 ghost use Rattle.td_answer.specs.Certified.{wants_open};
 ghost use Rattle.td_answer.specs.OpenCertificates.{IsOpenCertificate};
 
@@ -15,17 +16,15 @@ use td_certificate::{Certificate, Claim};
 use td_circuit::Circuit;
 use td_domain::Admit;
 use td_lead::Timed;
-use td_refute::Refuted;
 use td_request::Search;
-use td_worst::{KeptQuestion, tree_of_high};
+use td_worst::{KeptQuestion, Support, tree_of_high};
 
-/// What an open answer knows: the best pair, a moment that none passes, and the steps that are to show
-/// it, if there are some.
+/// What an open answer knows: the best pair, a moment that none passes, and what may show it.
 #[derive(Drop)]
 pub(crate) struct Open {
     pub best: Timed,
     pub high: u64,
-    pub refuted: Option<Refuted>,
+    pub support: Support,
 }
 
 /// Whether an open answer with these figures has a certificate, where there is one.
@@ -35,8 +34,8 @@ fn wants_open(search: &Search<'_>, low: u64, high: u64) -> bool
     search.between || is_decided(search.required, low, high)
 }
 
-/// The certificate of both figures of an open answer, where it is wanted and its file is named. None
-/// where nothing shows the upper figure, or memory runs out.
+/// The certificate of both figures of an open answer, where it is wanted and its file is named.
+/// None where nothing shows the upper figure, or memory runs out.
 pub(crate) fn open_certificate(
     alloc: Global,
     circuit: &Circuit,
@@ -50,14 +49,14 @@ pub(crate) fn open_certificate(
     requires fit { are_fit (2 + length circuit.now.netlist.inputs + length circuit.now.netlist.gates) told.keep.items ≡ true }
     requires timed { IsTimedAmong (setting circuit.now) (asking_by admit told.keep.items) known.best }
     requires ordered { known.best.time ≤ known.high }
-    requires shown { IfSome known.refuted (IsShownAmong (setting circuit.now) (asking_by admit told.keep.items)) }
+    requires shown { IsSupportAmong (setting circuit.now) (asking_by admit told.keep.items) known.support }
     ensures is { IfSome result (IsOpenCertificate (setting circuit.now) admit told known.best known.high) }
     ensures wanted { IfSome result (λ certificate. wants_open search.now known.best.time known.high ≡ true) }
 {
     let Open {
         best,
         high,
-        refuted,
+        support,
     } = known;
     if search.certificate.is_none() || !wants_open(search, best.time, high) {
         return None;
@@ -68,8 +67,7 @@ pub(crate) fn open_certificate(
         keep: &told.keep,
         required: None,
     };
-    let tree = tree_of_high(alloc, question, &best, high, &refuted)?;
-    drop(refuted);
+    let tree = tree_of_high(alloc, question, &best, high, support)?;
     let Timed { pair, time } = best;
     let claim = Claim { time, high, pair };
     match kept_certificate(alloc, circuit, admit, told, Some(claim), tree) {

@@ -3,7 +3,7 @@
 ghost use Rattle.std.specs.Prelude.{◌≡◌, ◌∷◌, ◌++◌, [], map, codes, decimal, IfOk, IfErr, OnOk, None as Nothing};
 ghost use Rattle.std.specs.List.{flat_map};
 ghost use Rattle.td_inputs.specs.Placings.{words_by_place, text_of};
-ghost use Rattle.td_answer.specs.Parts.{given_words, flips_words, default_words, pins_words, question_words, keep_option, condition_words, output_words, reading_words, part_words, HasParts, IsTrueParts, IsRefusedParts};
+ghost use Rattle.td_answer.specs.Parts.{given_words, number_words, default_words, pins_words, question_words, asked_words, keep_option, condition_words, output_words, reading_words, part_words, HasParts, IsTrueParts, IsRefusedParts};
 ghost use Rattle.td_answer.specs.Writing.{CanBeWritten};
 
 use crate::outcome::Outcome;
@@ -19,13 +19,14 @@ use td_question::{question_of, words_of};
 use td_reading::Reading;
 use td_request::Parts;
 use td_search::{Problem, SearchFault};
-use td_worst::WorstFault;
 
 /// What the options of each part say of its pairs besides pins, and of moments.
 #[derive(Clone, Copy)]
 struct Said<'a> {
     placed: &'a ByPlace,
     flips: Option<u64>,
+    /// The moment that is required.
+    required: Option<u64>,
     /// The words of conditions.
     keep: &'a [&'a [u8]],
     /// The file of conditions.
@@ -82,13 +83,18 @@ fn push_number(
     push_option(alloc, words, name, &word)
 }
 
-/// Appends the most flips, where they are given.
-fn push_flips(alloc: Global, words: &mut Vec<Label>, flips: Option<u64>) -> Result<(), AllocError>
-    ensures { OnOk result (words.new.items ≡ words.old.items ++ flips_words flips) }
+/// Appends an option and its number, where it is given.
+fn push_count(
+    alloc: Global,
+    words: &mut Vec<Label>,
+    name: &str,
+    number: Option<u64>,
+) -> Result<(), AllocError>
+    ensures { OnOk result (words.new.items ≡ words.old.items ++ number_words name.now number) }
 {
-    match flips {
+    match number {
         None => Ok(()),
-        Some(flips) => push_number(alloc, words, "--flips", flips),
+        Some(number) => push_number(alloc, words, name, number),
     }
 }
 
@@ -127,8 +133,16 @@ fn push_question(
     ensures { OnOk result (words.new.items ≡ words.old.items ++ question_words (words_by_place placed.now) flips) }
 {
     push_given(alloc, words, "--hold", placed.hold.as_deref())?;
-    push_flips(alloc, words, flips)?;
+    push_count(alloc, words, "--flips", flips)?;
     push_given(alloc, words, "--at", placed.at.as_deref())
+}
+
+/// And what is required of them.
+fn push_asked(alloc: Global, words: &mut Vec<Label>, said: Said<'_>) -> Result<(), AllocError>
+    ensures { OnOk result (words.new.items ≡ words.old.items ++ asked_words (words_by_place said.entry.placed.now) said.entry.flips said.entry.required) }
+{
+    push_question(alloc, words, said.placed, said.flips)?;
+    push_count(alloc, words, "--required", said.required)
 }
 
 /// Appends the option of a condition. The words of a command line are texts.
@@ -194,11 +208,11 @@ fn part_of(
     said: Said<'_>,
     reading: &Reading<'_>,
 ) -> Result<Part, AllocError>
-    ensures { IfOk result (λ part. part.words.items ≡ part_words reading.now (words_by_place said.entry.placed.now) said.entry.flips (map (λ word. word.now) said.entry.keep.now) (text_of said.entry.keep_file) cube.now) }
+    ensures { IfOk result (λ part. part.words.items ≡ part_words reading.now (words_by_place said.entry.placed.now) said.entry.flips said.entry.required (map (λ word. word.now) said.entry.keep.now) (text_of said.entry.keep_file) cube.now) }
 {
     let mut words = Vec::new(alloc);
     push_pins(alloc, &mut words, cube)?;
-    push_question(alloc, &mut words, said.placed, said.flips)?;
+    push_asked(alloc, &mut words, said)?;
     push_conditions(alloc, &mut words, said.keep, said.keep_file)?;
     push_reading(alloc, &mut words, reading)?;
     Ok(Part { words })
@@ -211,7 +225,7 @@ fn line_of(
     said: Said<'_>,
     reading: &Reading<'_>,
 ) -> Result<Line, AllocError>
-    ensures { IfOk result (HasParts (map (part_words reading.now (words_by_place said.entry.placed.now) said.entry.flips (map (λ word. word.now) said.entry.keep.now) (text_of said.entry.keep_file)) cubes.now)) }
+    ensures { IfOk result (HasParts (map (part_words reading.now (words_by_place said.entry.placed.now) said.entry.flips said.entry.required (map (λ word. word.now) said.entry.keep.now) (text_of said.entry.keep_file)) cubes.now)) }
 {
     let mut parts = Vec::new(alloc);
     for cube in cubes {
@@ -250,12 +264,13 @@ pub(crate) fn parts<'n, 'w>(
     };
     let cubes = cut(alloc, &problem, asked.count.parts as usize)?;
     if cubes.is_empty() {
-        return Err(Refusal::Search(WorstFault::Search(SearchFault::NoPair)));
+        return Err(Refusal::Search(SearchFault::NoPair));
     }
     let keep = words_of(alloc, asked.question.inputs.named)?;
     let said = Said {
         placed: &about.words,
         flips: asked.question.flips,
+        required: asked.required,
         keep: &keep,
         keep_file: asked.question.keep_file,
     };

@@ -13,7 +13,6 @@ use td_join::JoinFault;
 use td_question::QuestionFault;
 use td_search::SearchFault;
 use td_source::SourceFault;
-use td_worst::WorstFault;
 
 /// Why a request has no outcome. What is borrowed from the netlist's text lives as long as `'n`,
 /// and words of the request, as names of files, as long as `'w`.
@@ -27,7 +26,7 @@ pub enum Refusal<'n, 'w> {
     /// No output has this name, whose path is asked for.
     NoOutput(&'w str),
     /// The search has no answer.
-    Search(WorstFault),
+    Search(SearchFault),
     /// The certificate has no verdict.
     Check(CheckFault<'n>),
     /// The text of this file, of a part, is refused.
@@ -68,10 +67,10 @@ impl<'n, 'w> From<QuestionFault<'n, 'w>> for Refusal<'n, 'w> {
     }
 }
 
-impl<'n, 'w> From<WorstFault> for Refusal<'n, 'w> {
+impl<'n, 'w> From<SearchFault> for Refusal<'n, 'w> {
     ghost from_gives = { λ fault r. r ≡ refusal.Search fault };
 
-    fn from(fault: WorstFault) -> Self {
+    fn from(fault: SearchFault) -> Self {
         Refusal::Search(fault)
     }
 }
@@ -109,13 +108,12 @@ fn question_status(fault: &QuestionFault<'_, '_>) -> Status
     }
 }
 
-fn search_status(fault: WorstFault) -> Status
+fn search_status(fault: SearchFault) -> Status
     ensures { result ≡ search_status fault }
 {
     match fault {
-        WorstFault::Search(SearchFault::OutOfMemory) => Status::Device,
-        WorstFault::Search(SearchFault::NoPair) => Status::Refused,
-        WorstFault::NoTimer => Status::Device,
+        SearchFault::OutOfMemory => Status::Device,
+        SearchFault::NoPair => Status::Refused,
     }
 }
 

@@ -1,12 +1,11 @@
 //! What is known of a required moment.
 
 ghost use Rattle.std.specs.Prelude.{◌≡◌, ◌++◌, OnOk};
-ghost use Rattle.td_answer.specs.Requirements.{standing_of, is_decided, required_lines, cause_line, cause_by, ending_of_standing, ending_by};
+ghost use Rattle.td_answer.specs.Requirements.{standing_of, standing_by, requirement_of, bound_standing, is_decided, required_lines, met_lines, met_ending, cause_of, cause_by, ending_of_standing, ending_by};
 
 use crate::status::Status;
 use std::alloc::AllocError;
-use td_lines::{Line, Report, Standing};
-use td_search::Cause;
+use td_lines::{Cause, Found, Line, Report, Requirement, Standing};
 
 /// How a required moment stands: a pair has the lower figure, and none is later than the upper one.
 fn standing_of(moment: u64, low: u64, high: u64) -> Standing
@@ -19,6 +18,31 @@ fn standing_of(moment: u64, low: u64, high: u64) -> Standing
         return Standing::Violated;
     }
     Standing::Open
+}
+
+/// How a required moment stands by what is found of an output.
+fn standing_by(moment: u64, found: Found) -> Standing
+    ensures { result ≡ standing_by moment found }
+{
+    match found {
+        Found::Exact(time) => standing_of(moment, time, time),
+        Found::Between { low, high } => standing_of(moment, low, high),
+        Found::AtMost(high) => standing_of(moment, 0, high),
+        Found::NoPair => Standing::Met,
+    }
+}
+
+/// How the required moment stands, where there is one, by what is found of an output.
+pub(crate) fn requirement_of(required: Option<u64>, found: Found) -> Option<Requirement>
+    ensures { result ≡ requirement_of required found }
+{
+    match required {
+        None => None,
+        Some(moment) => Some(Requirement {
+            moment,
+            standing: standing_by(moment, found),
+        }),
+    }
 }
 
 /// Whether a moment is required, and two figures decide whether it is met.
@@ -46,25 +70,65 @@ pub(crate) fn push_required(
     }
 }
 
-/// The line that says why a search ended.
-fn cause_line(cause: Cause) -> Line
-    ensures { result ≡ cause_line cause }
+/// Why a search ended. Where its stop was set, it tells whether somebody asked for that.
+pub(crate) fn cause_of(cause: td_search::Cause, was_asked: bool) -> Cause
+    ensures { result ≡ cause_of was_asked cause }
 {
     match cause {
-        Cause::Budget => Line::Cause(td_lines::Cause::Budget),
-        Cause::Memory => Line::Cause(td_lines::Cause::Memory),
-        Cause::Time => Line::Cause(td_lines::Cause::Time),
+        td_search::Cause::Budget => Cause::Budget,
+        td_search::Cause::Memory => Cause::Memory,
+        td_search::Cause::Time => { if was_asked { Cause::Stop } else { Cause::Time } }
     }
 }
 
-/// The line that says why figures are open.
-pub(crate) fn cause_by(required: Option<u64>, low: u64, high: u64, cause: Cause) -> Line
+/// Why figures are open.
+pub(crate) fn cause_by(required: Option<u64>, low: u64, high: u64, cause: Cause) -> Cause
     ensures { result ≡ cause_by required low high cause }
 {
     if is_decided(required, low, high) {
-        return Line::Cause(td_lines::Cause::Required);
+        return Cause::Required;
     }
-    cause_line(cause)
+    cause
+}
+
+/// How a required moment stands by a bound alone: no pair is later than that.
+fn bound_standing(moment: u64, bound: Option<u64>) -> Standing
+    ensures { result ≡ bound_standing moment bound }
+{
+    match bound {
+        None => Standing::Open,
+        Some(bound) => {
+            if bound <= moment {
+                Standing::Met
+            } else {
+                Standing::Open
+            }
+        }
+    }
+}
+
+/// Appends how the required moment stands by a bound alone, where there is one.
+pub(crate) fn push_met(
+    report: &mut Report,
+    required: Option<u64>,
+    bound: Option<u64>,
+) -> Result<(), AllocError>
+    ensures { OnOk result (report.new ≡ report.old ++ met_lines required bound) }
+{
+    match required {
+        None => Ok(()),
+        Some(moment) => report.add(Line::Required(moment, bound_standing(moment, bound))),
+    }
+}
+
+/// How bounds end: as the required moment stands by the least of them.
+pub(crate) fn met_ending(required: Option<u64>, bound: Option<u64>) -> Status
+    ensures { result ≡ met_ending required bound }
+{
+    match required {
+        None => Status::Done,
+        Some(moment) => ending_of(bound_standing(moment, bound)),
+    }
 }
 
 fn ending_of(standing: Standing) -> Status

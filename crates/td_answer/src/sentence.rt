@@ -17,7 +17,6 @@ use td_nets::Name;
 use td_question::QuestionFault;
 use td_search::SearchFault;
 use td_source::SourceFault;
-use td_worst::WorstFault;
 
 impl<'n, 'w> Refusal<'n, 'w> {
     /// Appends the line that says why there is no outcome.
@@ -121,13 +120,12 @@ fn token(out: &mut Text, kind: FaultKind<'_>) -> Result<(), AllocError>
     out.push(b")")
 }
 
-fn search(out: &mut Text, fault: WorstFault) -> Result<(), AllocError>
+fn search(out: &mut Text, fault: SearchFault) -> Result<(), AllocError>
     ensures { OnOk result (out.new ≡ out.old ++ search_text fault) }
 {
     match fault {
-        WorstFault::Search(SearchFault::NoPair) => out.push(b"no admitted pair"),
-        WorstFault::Search(SearchFault::OutOfMemory) => out.push(b"out of memory"),
-        WorstFault::NoTimer => out.push(b"no timer"),
+        SearchFault::NoPair => out.push(b"no admitted pair"),
+        SearchFault::OutOfMemory => out.push(b"out of memory"),
     }
 }
 

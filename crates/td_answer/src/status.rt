@@ -12,7 +12,7 @@ pub enum Status {
     Refused,
     /// The command line or a vector was wrong.
     BadCommand,
-    /// The search for the worst delay was cut short.
+    /// The worst delay, or what is asked of it, stays open.
     Between,
     /// The checker refused a certificate.
     Rejected,

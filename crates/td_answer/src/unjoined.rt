@@ -49,7 +49,6 @@ pub(crate) fn unjoined(out: &mut Text, fault: &JoinFault<&str>) -> Result<(), Al
         JoinFault::OtherFlips(this, that) => two(out, this, that, b"other flips"),
         JoinFault::OtherMoments(this, that) => two(out, this, that, b"other input times"),
         JoinFault::OtherTerms(this, that) => two(out, this, that, b"other terms"),
-        JoinFault::Open(this) => one(out, this, b"open"),
         JoinFault::Outside(this) => one(out, this, b"other pins"),
         JoinFault::Overlap(this, that) => two(out, this, that, b"a pair in both"),
         JoinFault::Crossed(this, that) => two(out, this, that, b"no position parts them"),

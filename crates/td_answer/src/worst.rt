@@ -1,13 +1,13 @@
 //! The worst delay.
 
-ghost use Rattle.std.specs.Prelude.{◌≡◌, ◌≤◌, ◌++◌, ◌⊎◌, [], length, is_some, IfOk, IfErr, IfSome};
+ghost use Rattle.std.specs.Prelude.{◌≡◌, ◌≤◌, ◌++◌, ◌⊎◌, [], length, is_some, IfOk, IfErr};
 ghost use Rattle.td_circuit.specs.Numbering.{setting};
-ghost use Rattle.td_refute.specs.Answers.{IsShown};
 ghost use Rattle.td_search.specs.Answers.{low_of};
 ghost use Rattle.td_search.specs.Problems.{Problem, problem_by, has_delay};
 ghost use Rattle.td_worst.specs.Methods.{tree_of, high_of};
+ghost use Rattle.td_worst.specs.Supports.{IsSupport};
 ghost use Rattle.td_question.specs.Asking.{IsAsked};
-ghost use Rattle.td_answer.specs.Methods.{method_of, seconds_of};
+ghost use Rattle.td_answer.specs.Methods.{method_of};
 ghost use Rattle.td_answer.specs.Heads.{head_lines};
 ghost use Rattle.td_answer.specs.Lines.{answer_lines, ending_of, pair_in};
 ghost use Rattle.td_answer.specs.Runs.{RunsPair, TellsPair};
@@ -30,19 +30,19 @@ use crate::runs::run_of;
 use std::alloc::{AllocError, Global};
 use std::sync::Wait;
 use std::thread::Threads;
-use std::time::Clock;
 use td_certificate::{Certificate, Question};
 use td_circuit::Circuit;
 use td_domain::{Admit, Pair};
 use td_gates::Delay;
 use td_lead::Timed;
 use td_lines::Report;
-use td_pool::{Effort, Watch};
+use td_pool::{Effort, Limits, Watch};
 use td_question::{Asked, question_of};
 use td_reading::Reading;
 use td_request::Search;
 use td_search::{Answer, Strategy};
-use td_worst::{Found, Method, TimedEffort};
+use td_stop::Stop;
+use td_worst::{Found, Method};
 
 /// The means of a strategy.
 pub(crate) fn method_of(strategy: td_request::Strategy) -> Method
@@ -56,29 +56,16 @@ pub(crate) fn method_of(strategy: td_request::Strategy) -> Method
     }
 }
 
-/// The seconds after which a search ends, if it is to end so: 136 years where more are given.
-fn seconds_of(given: Option<u64>) -> Option<u32>
-    ensures { result ≡ seconds_of given }
-{
-    match given {
-        Some(seconds) => Some(u32::try_from(seconds).unwrap_or(u32::MAX)),
-        None => None,
-    }
-}
-
-/// How a search goes.
-pub(crate) fn effort_of(effort: &td_request::Effort) -> TimedEffort
+/// How a search goes, and what ends it.
+pub(crate) fn limits_of<'a>(effort: &td_request::Effort, stop: &'a Stop) -> Limits<'a>
     ensures workers { result.effort.workers ≡ effort.now.workers }
     ensures budget { result.effort.budget ≡ effort.now.budget }
-    ensures timed { is_some result.seconds ≡ is_some effort.now.seconds }
 {
-    TimedEffort {
-        effort: Effort {
-            workers: effort.workers,
-            budget: u64::from(effort.budget),
-        },
-        seconds: seconds_of(effort.seconds),
-    }
+    let effort = Effort {
+        workers: effort.workers,
+        budget: u64::from(effort.budget),
+    };
+    Limits { effort, stop }
 }
 
 /// The waves of a pair's run, where they are asked for.
@@ -105,18 +92,19 @@ fn reported(
     circuit: &Circuit,
     answer: &Answer,
     search: &Search<'_>,
+    was_asked: bool,
 ) -> Result<Report, AllocError>
     requires first_fits { length (pair_in answer.now).first ≡ length circuit.now.netlist.inputs }
     requires second_fits { length (pair_in answer.now).second ≡ length circuit.now.netlist.inputs }
-    ensures { IfOk result (AddsLines (TellsPair search.now.shown (setting circuit.now) (pair_in answer.now)) (head_lines circuit.now.netlist ++ answer_lines search.now.required answer.now)) }
+    ensures { IfOk result (AddsLines (TellsPair search.now.shown (setting circuit.now) (pair_in answer.now)) (head_lines circuit.now.netlist ++ answer_lines was_asked search.now.required answer.now)) }
 {
-    let mut report = report_of(alloc, circuit, search.required, answer)?;
+    let mut report = report_of(alloc, circuit, search.required, answer, was_asked)?;
     push_run(alloc, &mut report, circuit, pair_in(answer), search.shown)?;
     Ok(report)
 }
 
-/// How a netlist was read, and what pairs keep, as a certificate tells it; and which certificate of an
-/// exact answer does so.
+/// How a netlist was read, and what pairs keep, as a certificate tells it; and which certificate of
+/// an exact answer does so.
 struct Telling {
     told: Told,
     strategy: Strategy,
@@ -136,11 +124,11 @@ fn certificate_of(
     requires bare { telling.told.keep.items ≡ [] }
     requires has { has_delay (problem_by telling.strategy circuit.now admit) (pair_in found.answer) (low_of found.answer) }
     requires ordered { low_of found.answer ≤ high_of found.answer }
-    requires shown { IfSome found.refuted (IsShown (setting circuit.now) admit) }
+    requires shown { IsSupport (setting circuit.now) admit found.support }
     ensures { IfOk result (IsCertificateOf telling.told (problem_by telling.strategy circuit.now admit) search.now found.answer) }
 {
     let Telling { told, strategy } = telling;
-    let Found { answer, refuted } = found;
+    let Found { answer, support } = found;
     match answer {
         Answer::Exact { time, pair, tree } => {
             let moments = Vec::from_slice(alloc, circuit.moments())?;
@@ -165,7 +153,7 @@ fn certificate_of(
             let open = Open {
                 best,
                 high,
-                refuted,
+                support,
             };
             let kept = open_certificate(alloc, circuit, admit, told, open, search);
             Ok(kept)
@@ -181,6 +169,7 @@ fn outcome_of(
     strategy: Strategy,
     found: Found,
     search: &Search<'_>,
+    was_asked: bool,
 ) -> Result<Outcome, AllocError>
     requires held { length asked.admit.held ≡ length asked.circuit.netlist.inputs }
     requires flips { asked.admit.flips ≤ length asked.admit.held }
@@ -189,9 +178,9 @@ fn outcome_of(
     requires second_fits { length (pair_in found.answer).second ≡ length asked.circuit.netlist.inputs }
     requires has { has_delay (problem_by strategy asked.circuit asked.admit) (pair_in found.answer) (low_of found.answer) }
     requires ordered { low_of found.answer ≤ high_of found.answer }
-    requires shown { IfSome found.refuted (IsShown (setting asked.circuit) asked.admit) }
+    requires shown { IsSupport (setting asked.circuit) asked.admit found.support }
     ensures report { IfOk result (λ outcome. AddsLines (TellsPair search.now.shown (setting asked.circuit) (pair_in found.answer))
-        (head_lines asked.circuit.netlist ++ answer_lines search.now.required found.answer) outcome.report) }
+        (head_lines asked.circuit.netlist ++ answer_lines was_asked search.now.required found.answer) outcome.report) }
     ensures certified { IfOk result (λ outcome. IsCertificateOf (told_with default asked.outputs asked.keep) (problem_by strategy asked.circuit asked.admit) search.now
         found.answer outcome.certificate) }
     ensures dumped { IfOk result (λ outcome. IsDumpWhere (is_some search.now.dump) (setting asked.circuit)
@@ -205,7 +194,7 @@ fn outcome_of(
         keep,
         ..
     } = asked;
-    let report = reported(alloc, &circuit, &found.answer, search)?;
+    let report = reported(alloc, &circuit, &found.answer, search, was_asked)?;
     let status = ending_of(search.required, &found.answer);
     let pair = pair_in(&found.answer).copy(alloc)?;
     let told = Told {
@@ -226,12 +215,13 @@ fn outcome_of(
 }
 
 /// The search for the worst delay of what a request asks of a text.
-pub(crate) fn worst<'n, 'w, W: Watch, R: Threads + Wait + Clock + Sync>(
+pub(crate) fn worst<'n, 'w, W: Watch, R: Threads + Wait + Sync>(
     rt: &R,
     alloc: Global,
     text: &'n [u8],
     reading: &Reading<'_>,
     search: &Search<'w>,
+    stop: &Stop,
     watch: &mut W,
 ) -> Result<Outcome, Refusal<'n, 'w>>
     ensures says { IfOk result (IsTrueSearch text.now reading.now search.now) }
@@ -243,17 +233,17 @@ pub(crate) fn worst<'n, 'w, W: Watch, R: Threads + Wait + Clock + Sync>(
 {
     let asked = question_of(alloc, text, reading, &search.question)?;
     if !asked.keep.is_empty() {
-        return worst_kept(rt, alloc, asked, text, reading, search);
+        return worst_kept(rt, alloc, asked, text, reading, search, stop);
     }
     let method = method_of(search.strategy);
-    let effort = effort_of(&search.effort);
+    let limits = limits_of(&search.effort, stop);
     let question = td_worst::Question {
         circuit: &asked.circuit,
         admit: &asked.admit,
         method,
         required: search.required,
     };
-    let found = td_worst::worst(rt, alloc, question, effort, watch)?;
+    let found = td_worst::worst(rt, alloc, question, limits, watch)?;
     let outcome = outcome_of(
         alloc,
         asked,
@@ -261,6 +251,7 @@ pub(crate) fn worst<'n, 'w, W: Watch, R: Threads + Wait + Clock + Sync>(
         method.strategy(),
         found,
         search,
+        stop.was_asked(),
     )?;
     Ok(outcome)
 }

@@ -33,6 +33,7 @@ device_fault disk request (fault.Conflict option) is = cc
 device_fault disk request (fault.OneFile out file) is = cc
 device_fault disk request (fault.Unread name) is = tt
 device_fault disk request (fault.Unwritten name) is = tt
+device_fault disk request fault.NoTimer is = tt
 
 pub one_file : (disk : Disk) (request : Request) (found : Fault) → IsOneFile found → Overwrites disk request → IsFaultOf disk request found
 one_file disk request fault.OutOfMemory is over = tt
@@ -40,6 +41,7 @@ one_file disk request (fault.Conflict option) is over = absurd is
 one_file disk request (fault.OneFile out file) is over = over
 one_file disk request (fault.Unread name) is over = tt
 one_file disk request (fault.Unwritten name) is over = tt
+one_file disk request fault.NoTimer is over = tt
 
 -- a message with a status, or that memory ran out
 pub device : (meant : Status) (ending : Status) → meant ≡ status.Device → (ending ≡ meant) ⊎ (ending ≡ status.Device) → ending ≡ status.Device
@@ -56,6 +58,7 @@ ended_by disk request (fault.Conflict option) ending is same = inr (inl (same, i
 ended_by disk request (fault.OneFile out file) ending is same = inr (inl (same, inr is))
 ended_by disk request (fault.Unread name) ending is same = inl same
 ended_by disk request (fault.Unwritten name) ending is same = inl same
+ended_by disk request fault.NoTimer ending is same = inl same
 
 -- there is no outcome, since there is this fault of files and streams
 pub stopped : (disk : Disk) (request : Request) (found : Fault) (ending : Status) (old new : Output) → IsFaultOf disk request found → new ≡ old

@@ -79,6 +79,7 @@ fault_status (fault.Conflict option) = status.BadCommand
 fault_status (fault.OneFile out file) = status.BadCommand
 fault_status (fault.Unread name) = status.Device
 fault_status (fault.Unwritten name) = status.Device
+fault_status fault.NoTimer = status.Device
 
 -- it is that a file would be written over another
 abbrev pub IsOneFile : Fault → Type 0

@@ -4,3 +4,4 @@ pub mod Clashes
 pub mod Ends
 pub mod Files
 pub mod DumpLaws
+pub mod Judging

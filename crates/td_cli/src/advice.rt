@@ -1,10 +1,12 @@
-//! Whether hints are wanted, and why a file can't be read or written, as far as the system says.
+//! Whether hints are wanted, why a file can't be read or written, and whether it is there, as far
+//! as the system says.
 
+use std::fs::Metadata;
 use std::io::ErrorKind;
 use std::path::Path;
-use std::{fs, rt};
+use std::{fs, io, rt};
 
-/// Who says whether hints are wanted, and why a file can't be read or written.
+/// Who says whether hints are wanted, why a file can't be read or written, and whether it is there.
 pub trait Advice {
     /// Whether a hint follows a refusal. The words of the command line ask for hints, or don't.
     fn is_wanted(&self, asked: bool) -> bool;
@@ -14,9 +16,12 @@ pub trait Advice {
 
     /// Why no file of this name can be written, where that is known.
     fn unwritable(&self, name: &str) -> Option<&'static [u8]>;
+
+    /// Whether a file of this name is known to be there.
+    fn is_there(&self, name: &str) -> bool;
 }
 
-/// No hints.
+/// No hints, and no file.
 #[derive(Clone, Copy, Drop)]
 pub struct NoAdvice;
 
@@ -32,6 +37,10 @@ impl Advice for NoAdvice {
     fn unwritable(&self, _name: &str) -> Option<&'static [u8]> {
         None
     }
+
+    fn is_there(&self, _name: &str) -> bool {
+        false
+    }
 }
 
 /// The system that a runtime stands for, and whether hints are wanted whatever the words say.
@@ -41,25 +50,30 @@ pub struct System<'r, R> {
     hints: bool,
 }
 
-impl<'r, R: rt::Files> System<'r, R> {
+impl<'r, R> System<'r, R> {
     /// The system of this runtime.
     pub fn new(rt: &'r R, hints: bool) -> Self {
         System { rt, hints }
     }
+}
 
-    /// Why the folder of a name can't hold a file, where that is known.
-    fn folder(&self, name: &str) -> Option<&'static [u8]> {
-        let path = Path::new(name);
-        let parent = path.parent()?;
-        if parent.as_str().is_empty() {
-            return None;
-        }
-        match fs::metadata(self.rt, parent.as_str()) {
-            Ok(known) if known.is_dir() => None,
-            Ok(_file) => Some(b"its folder is a file"),
-            Err(error) if error.kind() == ErrorKind::NotFound => Some(b"there is no such folder"),
-            Err(error) => Some(sentence(error.kind())),
-        }
+/// The folder of a name, where the name says one.
+fn folder(name: &str) -> Option<&str> {
+    let path = Path::new(name);
+    let parent = path.parent()?;
+    match parent.as_str() {
+        "" => None,
+        folder => Some(folder),
+    }
+}
+
+/// Why a folder of which this is known can't hold a file, where that is known.
+fn unfit(known: io::Result<Metadata>) -> Option<&'static [u8]> {
+    match known {
+        Ok(known) if known.is_dir() => None,
+        Ok(_file) => Some(b"its folder is a file"),
+        Err(error) if error.kind() == ErrorKind::NotFound => Some(b"there is no such folder"),
+        Err(error) => Some(sentence(error.kind())),
     }
 }
 
@@ -92,9 +106,15 @@ impl<'r, R: rt::Files> Advice for System<'r, R> {
         match fs::metadata(self.rt, name) {
             Ok(known) if known.is_dir() => Some(b"it is a folder"),
             Ok(_known) => None,
-            Err(error) if error.kind() == ErrorKind::NotFound => self.folder(name),
+            Err(error) if error.kind() == ErrorKind::NotFound => {
+                unfit(fs::metadata(self.rt, folder(name)?))
+            }
             Err(error) => Some(sentence(error.kind())),
         }
+    }
+
+    fn is_there(&self, name: &str) -> bool {
+        fs::metadata(self.rt, name).is_ok()
     }
 }
 

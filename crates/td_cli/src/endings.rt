@@ -2,22 +2,36 @@
 
 use crate::lines::help;
 use std::alloc::AllocError;
-use td_lines::Text;
+use td_answer::Outcome;
+use td_lines::{Cause, Line, Text};
 use td_request::{Effort, MOST_NODES, Search, Strategy};
 
-/// Appends that a search was cut short, or one of those for each output, and how it goes on; and that
-/// no certificate was written, where one was asked for.
+/// Whether a report says that somebody asked for the search's end.
+fn was_stopped(report: &[Line]) -> bool {
+    for line in report {
+        if let Line::Cause(Cause::Stop) = line {
+            return true;
+        }
+    }
+    false
+}
+
+/// Appends that a search was cut short, or one of those for each output, and how it goes on; and
+/// that no certificate was written, where one was asked for.
 pub(crate) fn cut_short(
     text: &mut Text,
     search: &Search<'_>,
-    is_certified: bool,
+    outcome: &Outcome,
 ) -> Result<(), AllocError> {
+    if was_stopped(outcome.report.lines()) {
+        return text.push(b"the file of --stop ended the search; both figures are true");
+    }
     let budget = u64::from(search.effort.budget);
     if search.table.is_some() {
         text.number_between(
             b"the search for some output ended before it was done: ",
             budget,
-            b" nodes are the budget of each, unless memory or time ended it; all figures are true",
+            b" nodes are the budget of each, unless memory, time or --stop ended it; all figures are true",
         )?;
     } else {
         text.number_between(
@@ -29,7 +43,7 @@ pub(crate) fn cut_short(
     if search.strategy == Strategy::Least {
         help(text, b"--strategy auto, which goes on by other ways")?;
     }
-    if search.certificate.is_some() && !is_certified {
+    if search.certificate.is_some() && outcome.certificate.is_none() {
         uncertified(text, search.between)?;
     }
     ways_on(text, &search.effort)

@@ -23,6 +23,8 @@ pub enum Fault<'w> {
     Unread(&'w str),
     /// A device fails to write the file of this name; `-` is standard output.
     Unwritten(&'w str),
+    /// There is no thread for the timer that is asked for, or no clock that it can read.
+    NoTimer,
 }
 
 impl<'w> From<AllocError> for Fault<'w> {
@@ -73,7 +75,9 @@ impl<'w> Fault<'w> {
         ensures { result ≡ fault_status self.now }
     {
         match self {
-            Fault::OutOfMemory | Fault::Unread(_) | Fault::Unwritten(_) => Status::Device,
+            Fault::OutOfMemory | Fault::Unread(_) | Fault::Unwritten(_) | Fault::NoTimer => {
+                Status::Device
+            }
             Fault::Conflict(_) | Fault::OneFile(..) => Status::BadCommand,
         }
     }
@@ -88,6 +92,7 @@ impl<'w> Fault<'w> {
             Fault::Unwritten(name) => {
                 out.word_between(b"tdelay: cannot write ", written_as(name), b"\n")
             }
+            Fault::NoTimer => out.push(b"tdelay: no timer\n"),
         }
     }
 }

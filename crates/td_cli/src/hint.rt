@@ -24,7 +24,6 @@ use td_request::{Command, Request};
 use td_search::SearchFault;
 use td_source::{SourceFault, circuit_of};
 use td_text::Sink;
-use td_worst::WorstFault;
 
 /// Writes a hint with the end of its last line to standard error; nothing where it is empty, or
 /// memory ran out.
@@ -82,6 +81,7 @@ pub(crate) fn fault_hint<A: Advice>(
         Fault::OneFile(out, file) => one_file(&mut text, out, file)?,
         Fault::Unread(name) => unreadable(&mut text, name, advice.unreadable(name))?,
         Fault::Unwritten(name) => unwritable(&mut text, name, advice.unwritable(name))?,
+        Fault::NoTimer => no_timer(&mut text)?,
     }
     Ok(text)
 }
@@ -95,7 +95,7 @@ pub(crate) fn ending_hint(
     let mut text = Text::new(alloc);
     match (&request.command, outcome.status) {
         (Command::Worst(search), Status::Between) => {
-            cut_short(&mut text, search, outcome.certificate.is_some())?;
+            cut_short(&mut text, search, outcome)?;
         }
         (Command::Check(check), Status::Rejected) => {
             if let Some(verdict) = outcome.verdict {
@@ -228,10 +228,9 @@ impl<'r, 'w, 't> Case<'r, 'w, 't> {
     }
 }
 
-fn search(text: &mut Text, fault: WorstFault) -> Result<(), AllocError> {
+fn search(text: &mut Text, fault: SearchFault) -> Result<(), AllocError> {
     match fault {
-        WorstFault::Search(SearchFault::OutOfMemory) => memory(text),
-        WorstFault::Search(SearchFault::NoPair) => no_pair(text),
-        WorstFault::NoTimer => no_timer(text),
+        SearchFault::OutOfMemory => memory(text),
+        SearchFault::NoPair => no_pair(text),
     }
 }

@@ -4,16 +4,18 @@
 //!           ──answer──▶ Outcome ──▶ report to out, certificate and waves to files
 //!                     ╲ Refusal ──▶ sentence and hint to err
 //!
-//! `program` is all that `main` calls. A fault (`Fault`) is one of files and streams, a refusal one of
-//! what the texts say.
+//! `program` is all that `main` calls. A fault (`Fault`) is one of files and streams, a refusal one
+//! of what the texts say.
 #![tactic(auto)]
 
 mod advice;
 mod bytes;
+mod deadline;
 mod delivery;
 mod endings;
 mod fault;
 mod hint;
+mod judging;
 pub mod laws;
 mod lines;
 mod message;

@@ -28,12 +28,12 @@ pub(crate) fn memory(text: &mut Text) -> Result<(), AllocError> {
     )
 }
 
-/// Appends what to do where a search can't be timed.
+/// Appends what to do where a run can't be timed.
 pub(crate) fn no_timer(text: &mut Text) -> Result<(), AllocError> {
     text.push(b"the system gives no thread for a timer, or no clock")?;
     help(
         text,
-        b"fewer --workers, or no --seconds: --budget limits a search too",
+        b"fewer --workers, or no --seconds and no --stop: --budget limits a search too",
     )
 }
 
@@ -117,7 +117,7 @@ pub(crate) fn not_joined(text: &mut Text, fault: &JoinFault<&str>) -> Result<(),
         JoinFault::OutOfMemory | JoinFault::NoCertificate | JoinFault::Gap(_) => {
             text.push(joins::sentence(fault))?
         }
-        JoinFault::Open(one) | JoinFault::Outside(one) | JoinFault::FalseNone(one) => {
+        JoinFault::Outside(one) | JoinFault::FalseNone(one) => {
             of_file(text, one, joins::sentence(fault))?
         }
         JoinFault::OtherCircuit(one, other)

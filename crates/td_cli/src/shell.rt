@@ -3,7 +3,7 @@
 ghost use Rattle.std.specs.Prelude.{◌≡◌, ◌⊎◌, map, IfOk, IfErr, IfSome, IfNone, OnOk};
 ghost use Rattle.td_command.specs.Parting.{AreParted};
 ghost use Rattle.td_command.specs.Saying.{AskFor};
-ghost use Rattle.td_answer.specs.Outcomes.{IsPlain, IsRefused, IsTrueOutcome};
+ghost use Rattle.td_answer.specs.Outcomes.{IsPlain};
 ghost use Rattle.td_answer.specs.Statuses.{status_of};
 ghost use Rattle.td_answer.specs.Writing.{CanBeWritten};
 ghost use Rattle.td_answer.specs.declared.status.Status.TheVariants as ending;
@@ -11,24 +11,22 @@ ghost use Rattle.td_cli.specs.Carrying.{Carries, Prints};
 ghost use Rattle.td_cli.specs.Clashes.{fault_status};
 ghost use Rattle.td_cli.specs.Ends.{Ends, Refuses, Shows, words_status};
 
-use crate::advice::{Advice, NoAdvice, System};
+use crate::advice::{Advice, NoAdvice};
 use crate::bytes::bytes_for;
 use crate::delivery::deliver;
 use crate::fault::Fault;
 use crate::hint::{advise, ending_hint, fault_hint, refusal_hint, warn};
+use crate::judging::{judged, shows_progress};
 use crate::message::{tell, tell_fault, tell_refusal};
-use crate::progress::ProgressLines;
 use crate::usage::tell_usage;
 use std::alloc::Global;
 use std::convert::AsStr;
-use std::rt;
 use std::sync::Wait;
 use std::thread::Threads;
 use std::time::Clock;
-use td_answer::{Outcome, Refusal, Status, Texts, answer, answer_plain};
+use td_answer::{Outcome, Refusal, Status, answer_plain};
 use td_command::{Words, asked};
 use td_files::{Files, ReadFault};
-use td_pool::take_back;
 use td_request::{Command, Request};
 use td_text::Sink;
 
@@ -37,21 +35,20 @@ use td_text::Sink;
 ///
 /// Each file that the words name is read once, before anything is judged. What is answered goes to
 /// `out` in the form that the words ask for (text, JSON or nothing), and then the certificate and
-/// the waves go to their files. Why it is refused goes to `err`; a hint follows where the words ask
-/// or `hints` ask for one. Help and the version go to `out`.
+/// the waves go to their files. Why it is refused goes to `err`; a hint follows where
+/// the words or `advice` ask for one. Help and the version go to `out`.
 ///
 /// What goes out is the print of an outcome that is true of what the files hold, or a beginning of
 /// it where a device fails or memory runs out; or nothing, for a reason that holds. `Status::code`
 /// is the exit status.
-pub fn program<R: Threads + Wait + Clock + Sync + rt::Files, S: AsStr, F: Files, O: Sink, E: Sink>(
-    rt: &R,
-    alloc: Global,
-    words: &[S],
-    files: &mut F,
-    out: &mut O,
-    err: &mut E,
-    hints: bool,
-) -> Status
+pub fn program<
+    R: Threads + Wait + Clock + Sync,
+    S: AsStr,
+    F: Files,
+    O: Sink,
+    E: Sink,
+    A: Advice + Sync,
+>(rt: &R, alloc: Global, words: &[S], files: &mut F, out: &mut O, err: &mut E, advice: &A) -> Status
     ensures { Ends (F.disk files.old) (map S.text words.now) result (O.output out.old) (O.output out.new) }
 {
     let words = match words_of(alloc, words, err) {
@@ -59,15 +56,12 @@ pub fn program<R: Threads + Wait + Clock + Sync + rt::Files, S: AsStr, F: Files,
         Err(status) => return status,
     };
     match request_of(alloc, &words, out, err) {
-        Ok(request) => {
-            let system = System::new(rt, hints);
-            carry_out(rt, alloc, &request, files, out, err, &system)
-        }
+        Ok(request) => carry_out(rt, alloc, &request, files, out, err, advice),
         Err(status) => status,
     }
 }
 
-/// As `program`, with no hint, whatever the words ask for.
+/// As `program`, with no hint and no file of `--stop`, whatever the words ask for.
 pub fn run<R: Threads + Wait + Clock + Sync, S: AsStr, F: Files, O: Sink, E: Sink>(
     rt: &R,
     alloc: Global,
@@ -78,14 +72,7 @@ pub fn run<R: Threads + Wait + Clock + Sync, S: AsStr, F: Files, O: Sink, E: Sin
 ) -> Status
     ensures { Ends (F.disk files.old) (map S.text words.now) result (O.output out.old) (O.output out.new) }
 {
-    let words = match words_of(alloc, words, err) {
-        Ok(words) => words,
-        Err(status) => return status,
-    };
-    match request_of(alloc, &words, out, err) {
-        Ok(request) => carry_out(rt, alloc, &request, files, out, err, &NoAdvice),
-        Err(status) => status,
-    }
+    program(rt, alloc, words, files, out, err, &NoAdvice)
 }
 
 /// As `run`, without threads. None, with nothing read or written, where the words ask for `worst`,
@@ -167,7 +154,7 @@ fn request_of<'w, 'x, O: Sink, E: Sink>(
 
 /// Carries out a request: reads each file that it names once, and prints the outcome of these
 /// texts.
-pub fn carry_out<R: Threads + Wait + Clock + Sync, F: Files, O: Sink, E: Sink, A: Advice>(
+pub fn carry_out<R: Threads + Wait + Clock + Sync, F: Files, O: Sink, E: Sink, A: Advice + Sync>(
     rt: &R,
     alloc: Global,
     request: &Request<'_>,
@@ -186,37 +173,12 @@ pub fn carry_out<R: Threads + Wait + Clock + Sync, F: Files, O: Sink, E: Sink, A
         warn(alloc, request, err, advice);
     }
     let texts = bytes.texts();
-    match judged(rt, alloc, request, &texts, err) {
+    let Some(found) = judged(rt, alloc, request, &texts, err, advice) else {
+        return stop(alloc, request, Fault::NoTimer, err, advice);
+    };
+    match found {
         Ok(outcome) => finish(alloc, request, &outcome, files, out, err, advice),
         Err(refusal) => refuse(alloc, request, &bytes.netlist, &refusal, err, advice),
-    }
-}
-
-/// The outcome of a request on the texts of its files. Lines on standard error say how far a search
-/// has come, where that is asked for.
-fn judged<'n, 'c, 'w, R: Threads + Wait + Clock + Sync, E: Sink>(
-    rt: &R,
-    alloc: Global,
-    request: &Request<'w>,
-    texts: &Texts<'n, 'c, 'w>,
-    err: &mut E,
-) -> Result<Outcome, Refusal<'n, 'w>>
-    ensures says { IfOk result (IsTrueOutcome request.now texts.now) }
-    ensures written { IfOk result CanBeWritten }
-    ensures refusal { IfErr result (IsRefused request.now texts.now) }
-{
-    let mut watch = ProgressLines::new(rt, alloc, shows_progress(request), err);
-    let outcome = answer(rt, alloc, request, texts, &mut watch);
-    let ProgressLines { err, .. } = watch;
-    take_back(err);
-    outcome
-}
-
-/// Whether a request asks for the progress of its search.
-fn shows_progress(request: &Request<'_>) -> bool {
-    match &request.command {
-        Command::Worst(search) => search.shown.progress,
-        _ => false,
     }
 }
 

@@ -7,7 +7,6 @@ use std::alloc::Global;
 use std::sync::Wait;
 use std::test::*;
 use std::thread::Threads;
-use std::time::Clock;
 use td_answer::{Outcome, Refusal, Status, Texts, answer};
 use td_certificate::write;
 use td_gates::Delay;
@@ -19,13 +18,14 @@ use td_request::{
     Bound, Check, Command, Count, Effort, Files, Form, Inputs, Join, Parts, Path, Question,
     Request, Search, Shown, Sim, Strategy, Table,
 };
+use td_stop::Stop;
 use td_text::MemorySink;
 
 /// How many bytes a certificate may have.
 pub const ROOM: usize = 1 << 16;
 
 /// A netlist with two outputs: the first one changes last at moment 3, the second one at moment 5.
-const TWO: &[u8] =
+pub const TWO: &[u8] =
     b"module t(a, b, y, z);\ninput a, b;\noutput y, z;\nnot #(2,3) g(y,a);\nxor #(4,5) h(z,a,b);\nendmodule\n";
 
 /// Nothing is shown beside an answer.
@@ -73,7 +73,7 @@ const FALLS: [Taken<'static>; 2] = [
 ];
 
 /// The question about pairs that keep this, with at most so many flips.
-fn flipped(named: &'static [Taken<'static>], flips: u64) -> Question<'static> {
+pub fn flipped(named: &'static [Taken<'static>], flips: u64) -> Question<'static> {
     let Inputs { given, .. } = pinned(None);
     Question {
         inputs: Inputs { given, named },
@@ -121,6 +121,7 @@ pub fn search(
             budget: budget.min(1000),
             seconds: None,
         },
+        stop: None,
         certificate: None,
         dump: None,
         required: None,
@@ -132,7 +133,7 @@ pub fn search(
 }
 
 /// What comes out of a command about the netlist.
-pub fn answered<R: Threads + Wait + Clock + Sync>(
+pub fn answered<R: Threads + Wait + Sync>(
     rt: &R,
     alloc: Global,
     command: Command<'static>,
@@ -155,11 +156,11 @@ pub fn answered<R: Threads + Wait + Clock + Sync>(
         certificates,
         keep: None,
     };
-    answer(rt, alloc, &request, &texts, &mut Unwatched)
+    answer(rt, alloc, &request, &texts, &Stop::never(), &mut Unwatched)
 }
 
 /// Whether a command ends with this status and this report, or this sentence.
-pub fn says<R: Threads + Wait + Clock + Sync>(
+pub fn says<R: Threads + Wait + Sync>(
     rt: &R,
     alloc: Global,
     command: Command<'static>,
@@ -182,7 +183,7 @@ pub fn says<R: Threads + Wait + Clock + Sync>(
 }
 
 /// Appends the text of the certificate of the search from a first vector.
-fn push_certificate<R: Threads + Wait + Clock + Sync>(
+fn push_certificate<R: Threads + Wait + Sync>(
     rt: &R,
     alloc: Global,
     first: Option<&'static str>,
@@ -218,10 +219,22 @@ fn joined(
     check: bool,
     question: Question<'static>,
 ) -> Result<Command<'static>, Fail> {
+    joined_by(alloc, names, check, question, None)
+}
+
+/// The same, by a required moment.
+pub fn joined_by(
+    alloc: Global,
+    names: &[&'static str],
+    check: bool,
+    question: Question<'static>,
+    required: Option<u64>,
+) -> Result<Command<'static>, Fail> {
     let names = Vec::from_slice(alloc, names)?;
     Ok(Command::Join(Join {
         parts: Files::new(names),
         question,
+        required,
         certificate: None,
         check,
     }))
@@ -391,6 +404,8 @@ fn describes(rt: HostRuntime) -> Result<(), Fail> {
     let alloc = rt.alloc();
     let bound = Command::Bound(Bound {
         inputs: pinned(None),
+        flips: None,
+        required: None,
         edges: true,
         outputs: true,
         earliest: true,
@@ -406,8 +421,10 @@ fn describes(rt: HostRuntime) -> Result<(), Fail> {
         },
         strategy: Strategy::Least,
         count: Count { parts: 2 },
+        required: Some(4),
     });
-    let options = b"--first 0. --second .. --flips 2\n--first 1. --second .. --flips 2\n";
+    let options =
+        b"--first 0. --second .. --flips 2 --required 4\n--first 1. --second .. --flips 2 --required 4\n";
     assert!(rt; says(&rt, alloc, parts, &[], Status::Done, options)?);
     let info =
         b"module t\nunit 1 ns\ninputs 2\noutputs 2\ngates 2\ndefaulted 0\ndepth 1\ndelay 2 5\ninput 0 a\ninput 1 b\noutput 0 y\noutput 1 z\n";

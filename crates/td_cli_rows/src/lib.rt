@@ -12,4 +12,6 @@ mod questions;
 #[cfg(test)]
 mod required;
 #[cfg(test)]
+mod stops;
+#[cfg(test)]
 mod tables;

@@ -6,7 +6,7 @@ use std::test::*;
 use td_gates::{Kind, Level};
 use td_lines::{
     Cause, Change, Changes, Driver, Figure, Found, Hazard, HazardRow, Label, Last, Line, Moments,
-    Part, Place, Report, Row, Span, Text, Vector, print_json, print_text,
+    Part, Place, Report, Requirement, Row, Span, Standing, Text, Vector, print_json, print_text,
 };
 use td_nets::{Scale, Unit};
 
@@ -142,24 +142,28 @@ fn searched(alloc: Global) -> Result<Report, AllocError> {
         found: Found::Exact(5),
         edges: Some(7),
         changes: None,
+        required: None,
     })?;
     rows.push(Row {
         output: label(alloc, "exact")?,
         found: Found::Between { low: 2, high: 5 },
         edges: None,
         changes: None,
+        required: None,
     })?;
     rows.push(Row {
         output: label(alloc, "z")?,
         found: Found::AtMost(5),
         edges: Some(5),
         changes: None,
+        required: None,
     })?;
     rows.push(Row {
         output: label(alloc, "w")?,
         found: Found::NoPair,
         edges: Some(3),
         changes: None,
+        required: None,
     })?;
     rows.push(Row {
         output: label(alloc, "v")?,
@@ -170,6 +174,7 @@ fn searched(alloc: Global) -> Result<Report, AllocError> {
             fall: Found::Between { low: 2, high: 4 },
             glitch: Found::Exact(0),
         }),
+        required: None,
     })?;
     rows.push(Row {
         output: label(alloc, "u")?,
@@ -180,6 +185,7 @@ fn searched(alloc: Global) -> Result<Report, AllocError> {
             fall: Found::AtMost(4),
             glitch: Found::Between { low: 0, high: 4 },
         }),
+        required: None,
     })?;
     report.add(Line::Each(rows))?;
     report.add(Line::Hazards(hazards(alloc)?))?;
@@ -187,6 +193,55 @@ fn searched(alloc: Global) -> Result<Report, AllocError> {
     words.push(label(alloc, "--first")?)?;
     words.push(label(alloc, "0.")?)?;
     report.add(Line::Parts(one(alloc, Part { words })?))?;
+    Ok(report)
+}
+
+/// A row of an output whose required moment stands so.
+fn required_row(
+    alloc: Global,
+    name: &str,
+    found: Found,
+    required: Requirement,
+) -> Result<Row, AllocError> {
+    Ok(Row {
+        output: label(alloc, name)?,
+        found,
+        edges: Some(5),
+        changes: None,
+        required: Some(required),
+    })
+}
+
+/// Rows that say how a required moment stands.
+fn required_rows(alloc: Global) -> Result<Report, AllocError> {
+    let met = Requirement {
+        moment: 4,
+        standing: Standing::Met,
+    };
+    let violated = Requirement {
+        moment: 4,
+        standing: Standing::Violated,
+    };
+    let open = Requirement {
+        moment: 4,
+        standing: Standing::Open,
+    };
+    let mut rows = Vec::new(alloc);
+    rows.push(required_row(alloc, "u", Found::Exact(4), met)?)?;
+    rows.push(required_row(alloc, "v", Found::Exact(5), violated)?)?;
+    let within = Found::Between { low: 2, high: 5 };
+    rows.push(required_row(alloc, "w", within, open)?)?;
+    rows.push(required_row(alloc, "x", Found::AtMost(5), open)?)?;
+    rows.push(required_row(alloc, "y", Found::NoPair, met)?)?;
+    let mut last = required_row(alloc, "z", Found::Exact(1), met)?;
+    last.changes = Some(Changes {
+        rise: Found::Exact(1),
+        fall: Found::NoPair,
+        glitch: Found::Exact(0),
+    });
+    rows.push(last)?;
+    let mut report = Report::new(alloc);
+    report.add(Line::Each(rows))?;
     Ok(report)
 }
 
@@ -224,6 +279,7 @@ fn told(alloc: Global) -> Result<Report, AllocError> {
     report.add(Line::AcceptedBetween { time: 2, high: 5 })?;
     report.add(Line::AcceptedNone)?;
     report.add(Line::Unchecked(3))?;
+    report.add(Line::UncheckedBetween { time: 3, high: 7 })?;
     report.add(Line::UncheckedNone)?;
     report.add(Line::Default { rise: 1, fall: 3 })?;
     report.add(Line::OutputNumbers(None))?;
@@ -303,6 +359,29 @@ hazard y 0 can 01 11\nhazard y 1 never\nhazard z 0 none\nhazard z 1 open\n--firs
 }
 
 #[test]
+fn prints_slacks(rt: HostRuntime) -> Result<(), Fail> {
+    let report = required_rows(rt.alloc())?;
+    prints(
+        &rt,
+        rt.alloc(),
+        &report,
+        "each u exact 4 edges 5 required met slack 0\n\
+each v exact 5 edges 5 required violated slack -1\n\
+each w between 2 5 edges 5 required open slack -1..2\n\
+each x between none 5 edges 5 required open slack -1..none\n\
+each y none edges 5 required met slack none\n\
+each z exact 1 edges 5 rise 1 fall none glitch never required met slack 3\n",
+        "{\"proved\":true,\
+\"each\":[[\"u\",\"exact\",4,\"edges\",5,\"required\",\"met\",\"slack\",0],\
+[\"v\",\"exact\",5,\"edges\",5,\"required\",\"violated\",\"slack\",-1],\
+[\"w\",\"between\",2,5,\"edges\",5,\"required\",\"open\",\"slack\",[-1,2]],\
+[\"x\",\"between\",null,5,\"edges\",5,\"required\",\"open\",\"slack\",[-1,null]],\
+[\"y\",\"none\",\"edges\",5,\"required\",\"met\",\"slack\",\"none\"],\
+[\"z\",\"exact\",1,\"edges\",5,\"rise\",1,\"fall\",\"none\",\"glitch\",null,\"required\",\"met\",\"slack\",3]]}\n",
+    )
+}
+
+#[test]
 fn prints_a_verdict(rt: HostRuntime) -> Result<(), Fail> {
     let report = checked(rt.alloc())?;
     prints(
@@ -323,9 +402,9 @@ fn prints_what_is_told(rt: HostRuntime) -> Result<(), Fail> {
         &rt,
         rt.alloc(),
         &report,
-        "accepted between 2 5\naccepted none\nunchecked 3\nunchecked none\ndefault 1 3\noutput all\n\
+        "accepted between 2 5\naccepted none\nunchecked 3\nunchecked between 3 7\nunchecked none\ndefault 1 3\noutput all\n\
 output 4\nkeep 2 01 5 ==\n",
-        "{\"proved\":true,\"accepted\":[2,5],\"accepted\":\"none\",\"unchecked\":3,\"unchecked\":\"none\",\
+        "{\"proved\":true,\"accepted\":[2,5],\"accepted\":\"none\",\"unchecked\":3,\"unchecked\":[3,7],\"unchecked\":\"none\",\
 \"default\":\"1 3\",\"output\":[\"all\"],\
 \"output\":[[4]],\
 \"keep\":\"2 01 5 ==\"}\n",

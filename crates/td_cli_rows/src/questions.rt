@@ -7,7 +7,7 @@ use td_domain::Trit;
 use td_gates::{Delay, Level};
 use td_inputs::{Given, Taken, Topic, WordFault};
 use td_question::vector::VectorWord;
-use td_question::{Asked, QuestionFault, cube_of, pair_of, question_of};
+use td_question::{Asked, QuestionFault, pair_of, question_of};
 use td_reading::Reading;
 use td_refutation::NamedCondition;
 use td_request::{Inputs, Question};
@@ -139,7 +139,7 @@ fn reading(rt: &impl Abort, alloc: Global) -> Reading<'static> {
     Reading::whole(alloc, default)
 }
 
-/// The pins of a cube, by place and by name together.
+/// The pins of admitted pairs, by place and by name together.
 #[test]
 fn pins_a_cube(rt: HostRuntime) -> Result<(), Fail> {
     let named = [Taken {
@@ -154,11 +154,18 @@ fn pins_a_cube(rt: HostRuntime) -> Result<(), Fail> {
         given,
         named: &named,
     };
-    match cube_of(rt.alloc(), TEXT, &reading(&rt, rt.alloc()), &inputs) {
+    let question = Question {
+        inputs,
+        flips: None,
+        keep_file: None,
+        keep_text: None,
+    };
+    match question_of(rt.alloc(), TEXT, &reading(&rt, rt.alloc()), &question) {
         Ok(asked) => {
-            assert!(rt; asked.cube.len() == 6);
-            assert!(rt; asked.cube.trit(0) == Trit::Zero && asked.cube.trit(1) == Trit::Free);
-            assert!(rt; asked.cube.trit(4) == Trit::One && asked.cube.trit(5) == Trit::One);
+            let cube = asked.admit.pins();
+            assert!(rt; cube.len() == 6);
+            assert!(rt; cube.trit(0) == Trit::Zero && cube.trit(1) == Trit::Free);
+            assert!(rt; cube.trit(4) == Trit::One && cube.trit(5) == Trit::One);
         }
         Err(_) => assert!(rt; false),
     }

@@ -92,12 +92,22 @@ pair_rules = needed (codes "FILE") ∷ needed (codes "FROM") ∷ needed (codes "
 abbrev pub cube_rules : List Rule
 cube_rules = option (codes "first") ∷ option (codes "second") ∷ named_option (codes "pin") ∷ []
 
+-- which inputs are held, by place or by their names
+abbrev pub held_rules : List Rule
+held_rules = option (codes "hold") ∷ named_option (codes "hold-input") ∷ []
+
+-- the most flips
+abbrev pub flips_rule : Rule
+flips_rule = count_option (codes "flips")
+
 -- the pairs that a search admits: those of a cube, where some inputs are held, nets meet conditions
 -- and the number of flips has a limit
 abbrev pub admitted_rules : List Rule
-admitted_rules =
-    cube_rules ++ option (codes "hold") ∷ named_option (codes "hold-input") ∷ named_option (codes "keep") ∷ option (codes "keep-file")
-    ∷ count_option (codes "flips") ∷ []
+admitted_rules = cube_rules ++ held_rules ++ named_option (codes "keep") ∷ option (codes "keep-file") ∷ flips_rule ∷ []
+
+-- by which moment outputs are to settle
+abbrev pub required_rule : Rule
+required_rule = count_option (codes "required")
 
 -- by which strategy a search goes
 abbrev pub strategy_rule : Listed → Rule
@@ -111,12 +121,15 @@ certificate_rule = with_letter out_letter (option (codes "cert"))
 abbrev pub outputs_rule : Rule
 outputs_rule = record (option (codes "output")) { action = Some Append }
 
+-- how much a search may do, and what ends it before
+abbrev pub limit_rules : List Rule
+limit_rules = number_option (codes "budget") 0 10000000 (codes "1000000") ∷ count_option (codes "seconds") ∷ option (codes "stop") ∷ []
+
 -- how a search goes, when its answer is enough, and where its certificate goes
 abbrev pub search_rules : Listed → List Rule
 search_rules strategies =
-    with_letter workers_letter (number_option (codes "workers") 1 64 (codes "1")) ∷ strategy_rule strategies ∷
-    number_option (codes "budget") 0 10000000 (codes "1000000") ∷ count_option (codes "seconds") ∷ count_option (codes "required") ∷
-    certificate_rule ∷ flag (codes "cert-between") ∷ []
+    with_letter workers_letter (number_option (codes "workers") 1 64 (codes "1")) ∷ strategy_rule strategies ∷ limit_rules
+    ++ required_rule ∷ certificate_rule ∷ flag (codes "cert-between") ∷ []
 
 -- the command of this name, which takes these arguments, and those of all commands after them
 abbrev pub command_of : Text → List Rule → App
@@ -130,8 +143,8 @@ path_command = command_of (codes "path") (pair_rules ++ option (codes "at") ∷ 
 
 abbrev pub bound_command : App
 bound_command =
-    command_of (codes "bound") (needed (codes "FILE") ∷ cube_rules ++ option (codes "at") ∷ flag (codes "edges") ∷ flag (codes "earliest") ∷ flag (codes "outputs")
-    ∷ outputs_rule ∷ [])
+    command_of (codes "bound") (needed (codes "FILE") ∷ cube_rules ++ held_rules ++ flips_rule ∷ option (codes "at") ∷ required_rule ∷
+    flag (codes "edges") ∷ flag (codes "earliest") ∷ flag (codes "outputs") ∷ outputs_rule ∷ [])
 
 -- which table is asked for, of each output by itself
 abbrev pub table_rules : List Rule
@@ -145,12 +158,12 @@ worst_command strategies =
 abbrev pub parts_command : Listed → App
 parts_command strategies =
     command_of (codes "parts") (needed (codes "FILE") ∷ needed_number (codes "parts") 1 65536 ∷ admitted_rules
-    ++ option (codes "at") ∷ strategy_rule strategies ∷ outputs_rule ∷ [])
+    ++ option (codes "at") ∷ strategy_rule strategies ∷ required_rule ∷ outputs_rule ∷ [])
 
 abbrev pub join_command : App
 join_command =
-    command_of (codes "join") (needed (codes "FILE") ∷ needed_words (codes "CERT") ∷ certificate_rule ∷ flag (codes "check") ∷ flag (codes "no-check") ∷
-    admitted_rules ++ option (codes "at") ∷ outputs_rule ∷ [])
+    command_of (codes "join") (needed (codes "FILE") ∷ needed_words (codes "CERT") ∷ count_option (codes "required") ∷ certificate_rule ∷ flag (codes "check")
+    ∷ flag (codes "no-check") ∷ admitted_rules ++ option (codes "at") ∷ outputs_rule ∷ [])
 
 abbrev pub check_command : App
 check_command = command_of (codes "check") (needed (codes "FILE") ∷ needed (codes "CERT") ∷ outputs_rule ∷ [])

@@ -79,6 +79,8 @@ pub record SaysPath (rows : List Row) (named : List Taken) (said : Path) : Type 
 
 pub record SaysBound (rows : List Row) (named : List Taken) (said : Bound) : Type 0 where
   pub inputs : SaysInputs rows named said.inputs
+  pub flips : HasCount (codes "flips") rows said.flips
+  pub required : HasCount (codes "required") rows said.required
   pub edges : HasFlag (codes "edges") rows said.edges
   pub outputs : HasFlag (codes "outputs") rows said.outputs
   pub earliest : HasFlag (codes "earliest") rows said.earliest
@@ -87,6 +89,7 @@ pub record SaysWorst (rows : List Row) (named : List Taken) (said : Search) : Ty
   pub question : SaysQuestion rows named said.question
   pub strategy : SaysStrategy rows said.strategy
   pub effort : SaysEffort rows said.effort
+  pub stop : HasWord (codes "stop") rows said.stop
   pub required : HasCount (codes "required") rows said.required
   pub certificate : HasWord (codes "cert") rows said.certificate
   pub between : HasFlag (codes "cert-between") rows said.between
@@ -98,10 +101,12 @@ pub record SaysParts (rows : List Row) (named : List Taken) (said : Parts) : Typ
   pub question : SaysQuestion rows named said.question
   pub strategy : SaysStrategy rows said.strategy
   pub count : HasNumber (codes "parts") rows said.count.parts
+  pub required : HasCount (codes "required") rows said.required
 
 pub record SaysJoin (rows : List Row) (named : List Taken) (said : Join) : Type 0 where
   pub parts : HasWords (codes "CERT") rows said.parts
   pub question : SaysQuestion rows named said.question
+  pub required : HasCount (codes "required") rows said.required
   pub certificate : HasWord (codes "cert") rows said.certificate
   pub check : LacksFlag (codes "no-check") rows said.check
 
@@ -170,7 +175,7 @@ takes name named =
     let searches = bytes_eq name (codes "worst") || (bytes_eq name (codes "parts") || bytes_eq name (codes "join")) in
     let pins = searches || bytes_eq name (codes "bound") in
     let moments = searches || (bytes_eq name (codes "bound") || (bytes_eq name (codes "sim") || bytes_eq name (codes "path"))) in
-    (pins || not (has Pin named)) && ((searches || not (has HoldInput named)) && ((searches || not (has Keep named)) && (moments || not (has At named))))
+    (pins || not (has Pin named)) && ((pins || not (has HoldInput named)) && ((searches || not (has Keep named)) && (moments || not (has At named))))
 
 abbrev pub takes_entered : Option (Text × List Row) → List Said → Bool
 takes_entered None named = true

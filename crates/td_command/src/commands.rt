@@ -7,8 +7,9 @@ ghost use Rattle.td_command.specs.Telling.{reported, offering, OffersCommand, Of
 
 use crate::arguments::Arguments;
 use crate::help::{
-    BOUND_HELP, BOUND_OUTPUT_HELP, CHAIN_HELP, CHECK_HELP, HELP, INFO_HELP, JOIN_HELP, LATEST_HELP,
-    PARTS_HELP, PATH_HELP, SIM_HELP, VERSION, WORST_HELP,
+    BOUND_HELP, BOUND_OUTPUT_HELP, BOUND_REQUIRED_HELP, CHAIN_HELP, CHECK_HELP, HELP, INFO_HELP,
+    JOIN_HELP, LATEST_HELP, PARTS_HELP, PARTS_REQUIRED_HELP, PATH_HELP, SIM_HELP, VERSION,
+    WORST_HELP,
 };
 use clap::Command;
 use std::alloc::{AllocError, Global};
@@ -98,7 +99,10 @@ impl<'a> Commands<'a> {
         let mut arguments = Arguments::new(self.alloc);
         arguments.file()?;
         arguments.cube()?;
+        arguments.held()?;
+        arguments.flips()?;
         arguments.moments()?;
+        arguments.required(BOUND_REQUIRED_HELP)?;
         arguments.edges()?;
         arguments.earliest()?;
         arguments.outputs(BOUND_OUTPUT_HELP)?;
@@ -139,6 +143,7 @@ impl<'a> Commands<'a> {
         arguments.admitted()?;
         arguments.moments()?;
         arguments.strategy(strategies)?;
+        arguments.required(PARTS_REQUIRED_HELP)?;
         arguments.asked_outputs()?;
         arguments.common()?;
         self.add(

@@ -23,7 +23,7 @@ fn takes(name: &str, named: &[Taken<'_>]) -> bool
     let pins = searches || name == "bound";
     let moments = searches || (name == "bound" || (name == "sim" || name == "path"));
     (pins || !has(Topic::Pin, named))
-        && ((searches || !has(Topic::HoldInput, named))
+        && ((pins || !has(Topic::HoldInput, named))
             && ((searches || !has(Topic::Keep, named)) && (moments || !has(Topic::At, named))))
 }
 

@@ -129,9 +129,13 @@ fn bound<'a>(matches: &ArgMatches<'a>, named: &'a [Taken<'a>]) -> Option<Command
     let edges = flag_given(matches, "edges")?;
     let outputs = flag_given(matches, "outputs")?;
     let earliest = flag_given(matches, "earliest")?;
+    let flips = count(matches, "flips")?;
+    let required = count(matches, "required")?;
     let inputs = inputs(matches, named);
     Some(Command::Bound(Bound {
         inputs,
+        flips,
+        required,
         edges,
         outputs,
         earliest,
@@ -148,12 +152,14 @@ fn worst<'a>(matches: &ArgMatches<'a>, named: &'a [Taken<'a>]) -> Option<Command
     let required = count(matches, "required")?;
     let between = flag_given(matches, "cert-between")?;
     let Tables { table, stray } = tables_in(matches)?;
+    let stop = word(matches, "stop");
     let certificate = word(matches, "cert");
     let dump = word(matches, "vcd");
     Some(Command::Worst(Search {
         question,
         strategy,
         effort,
+        stop,
         required,
         certificate,
         between,
@@ -170,11 +176,13 @@ fn parts<'a>(matches: &ArgMatches<'a>, named: &'a [Taken<'a>]) -> Option<Command
     let question = question(matches, named)?;
     let strategy = strategy(matches)?;
     let parts = parts_number(matches)?;
+    let required = count(matches, "required")?;
     let count = Count { parts };
     Some(Command::Parts(Parts {
         question,
         strategy,
         count,
+        required,
     }))
 }
 
@@ -188,11 +196,13 @@ fn joined<'a>(
     ensures { IsAnswered (SaysCommand (codes "join") (rows_of (found_of matches.now)) named.entry.now) result }
 {
     let question = question(matches, named)?;
+    let required = count(matches, "required")?;
     let check = flag_left_out(matches, "no-check")?;
     let certificate = word(matches, "cert");
     Some(Command::Join(Join {
         parts,
         question,
+        required,
         certificate,
         check,
     }))

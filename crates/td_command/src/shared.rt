@@ -2,11 +2,11 @@
 
 ghost use Rattle.std.specs.Prelude.{◌≡◌, ◌++◌, [], ◌∷◌, codes, OnOk};
 ghost use Rattle.td_command.specs.CommandLine.{needed, needed_words, needed_number, option, number_option, count_option, flag};
-ghost use Rattle.td_command.specs.CommandLine.{with_letter, workers_letter, quiet_letter, common_rules, pair_rules, cube_rules, admitted_rules, strategy_rule, certificate_rule, outputs_rule, search_rules, table_rules};
+ghost use Rattle.td_command.specs.CommandLine.{with_letter, workers_letter, quiet_letter, common_rules, pair_rules, cube_rules, held_rules, flips_rule, admitted_rules, required_rule, strategy_rule, certificate_rule, outputs_rule, limit_rules, search_rules, table_rules};
 ghost use Rattle.td_command.specs.Telling.{TellsRule, TellsRules};
 
 use crate::arguments::{Arguments, flag, number, option};
-use crate::help::{LATEST_HELP, OUTPUT_HELP};
+use crate::help::{LATEST_HELP, OUTPUT_HELP, REQUIRED_HELP};
 use clap::ArgAction;
 use std::alloc::AllocError;
 use td_gates::Delay;
@@ -224,11 +224,10 @@ nodes handled pass 1, 2, 5, 10, 20, .. thousand, and every ten seconds",
         self.outputs(LATEST_HELP)
     }
 
-    /// The pairs that a search admits, as options.
-    pub(crate) fn admitted(&mut self) -> Result<(), AllocError>
-        ensures { OnOk result (TellsRules admitted_rules self.old self.new) }
+    /// Which inputs are held, as two options.
+    pub(crate) fn held(&mut self) -> Result<(), AllocError>
+        ensures { OnOk result (TellsRules held_rules self.old self.new) }
     {
-        self.cube()?;
         self.option(
             "hold",
             "MASK",
@@ -240,7 +239,33 @@ order; none held if left out",
             "NAME",
             "The two levels of the input of this name are the same. Any number of\n\
 times",
-        )?;
+        )
+    }
+
+    /// The most flips, as an option.
+    pub(crate) fn flips(&mut self) -> Result<(), AllocError>
+        ensures { OnOk result (TellsRule flips_rule self.old self.new) }
+    {
+        self.count(
+            "flips",
+            "The most inputs whose two levels differ; any number of them if left\n\
+out",
+        )
+    }
+
+    /// By which moment outputs are to settle, as an option.
+    pub(crate) fn required(&mut self, help: &'a str) -> Result<(), AllocError>
+        ensures { OnOk result (TellsRule required_rule self.old self.new) }
+    {
+        self.count("required", help)
+    }
+
+    /// The pairs that a search admits, as options.
+    pub(crate) fn admitted(&mut self) -> Result<(), AllocError>
+        ensures { OnOk result (TellsRules admitted_rules self.old self.new) }
+    {
+        self.cube()?;
+        self.held()?;
         self.named(
             "keep",
             "NET=FS",
@@ -254,11 +279,7 @@ NET==, at the same level under both. Any number of times",
             "A file with more conditions as of --keep, a line for each: NET FS or\n\
 NET ==; `#` begins a comment",
         )?;
-        self.count(
-            "flips",
-            "The most inputs whose two levels differ; any number of them if left\n\
-out",
-        )
+        self.flips()
     }
 
     /// By which strategy a search goes, as an option.
@@ -303,14 +324,9 @@ them ends",
 
     /// When an answer is enough, and where the certificate goes, as options.
     fn aims(&mut self) -> Result<(), AllocError>
-        ensures { OnOk result (TellsRules (count_option (codes "required") ∷ certificate_rule ∷ flag (codes "cert-between") ∷ []) self.old self.new) }
+        ensures { OnOk result (TellsRules (required_rule ∷ certificate_rule ∷ flag (codes "cert-between") ∷ []) self.old self.new) }
     {
-        self.count(
-            "required",
-            "Whether all outputs settle by this moment, in steps: the search ends\n\
-once that is known. Status 0 where they do, 6 where a pair is later, 3\n\
-where it stays open",
-        )?;
+        self.required(REQUIRED_HELP)?;
         self.certificate_out(
             "Writes the certificate of an exact answer to this file, or of whether\n\
 --required is met",
@@ -322,12 +338,10 @@ figures",
         )
     }
 
-    /// How a search goes, when its answer is enough, and where its certificate goes, as options.
-    fn search(&mut self, strategies: &'a [&'a str]) -> Result<(), AllocError>
-        ensures { OnOk result (TellsRules (search_rules strategies.entry) self.old self.new) }
+    /// How much a search may do, and what ends it before, as options.
+    fn limits(&mut self) -> Result<(), AllocError>
+        ensures { OnOk result (TellsRules limit_rules self.old self.new) }
     {
-        self.workers()?;
-        self.strategy(strategies)?;
         self.number(
             "budget",
             0,
@@ -338,9 +352,24 @@ of `refute`, in units",
         )?;
         self.count(
             "seconds",
-            "Ends the search after this many seconds of the clock; the answer then\n\
-lies between two figures",
+            "Ends the whole run, tables too, after this many seconds of the clock;\n\
+what is open then lies between two figures",
         )?;
+        self.option(
+            "stop",
+            "FILE",
+            "Ends the search as soon as a file of this name is there; the answer\n\
+then lies between two figures",
+        )
+    }
+
+    /// How a search goes, when its answer is enough, and where its certificate goes, as options.
+    fn search(&mut self, strategies: &'a [&'a str]) -> Result<(), AllocError>
+        ensures { OnOk result (TellsRules (search_rules strategies.entry) self.old self.new) }
+    {
+        self.workers()?;
+        self.strategy(strategies)?;
+        self.limits()?;
         self.aims()
     }
 
@@ -366,15 +395,20 @@ lies between two figures",
         )
     }
 
-    /// The certificates that are joined, where theirs goes, and whether each is checked, which is
-    /// said or left out.
+    /// The certificates that are joined, by which moment outputs are to settle, where theirs goes,
+    /// and whether each is checked, which is said or left out.
     pub(crate) fn joined(&mut self) -> Result<(), AllocError>
-        ensures { OnOk result (TellsRules (needed_words (codes "CERT") ∷ certificate_rule ∷ flag (codes "check") ∷ flag (codes "no-check") ∷ []) self.old self.new) }
+        ensures { OnOk result (TellsRules (needed_words (codes "CERT") ∷ count_option (codes "required") ∷ certificate_rule ∷ flag (codes "check") ∷ flag (codes "no-check") ∷ []) self.old self.new) }
     {
         self.needed_words(
             "CERT",
             "The certificates of the parts, each a path, or `-` or `stdin` for\n\
 standard input",
+        )?;
+        self.count(
+            "required",
+            "Whether all outputs settle by this moment, in steps. Status 0 where\n\
+they do, 6 where a pair is later, 3 where it stays open",
         )?;
         self.certificate_out("Writes the certificate of the whole question to this file")?;
         self.flag(

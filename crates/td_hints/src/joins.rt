@@ -21,7 +21,6 @@ pub fn sentence<P>(fault: &JoinFault<P>) -> &'static [u8]
         JoinFault::OtherTerms(_, _) => {
             b"the two are of questions with other default delays or another --output"
         }
-        JoinFault::Open(_) => b"it leaves the worst delay open",
         JoinFault::Outside(_) => {
             b"its pins aren't a part of those of the whole (--first, --second)"
         }
@@ -56,7 +55,6 @@ pub fn advice<P>(fault: &JoinFault<P>) -> &'static [u8]
         JoinFault::OtherTerms(_, _) => {
             b"one of them is of another question: search it again with the options that `parts` printed"
         }
-        JoinFault::Open(_) => b"search that part again, until it is exact",
         JoinFault::Outside(_) => {
             b"it is of another part of the pairs: leave it out, or loosen --first and --second"
         }

@@ -139,7 +139,7 @@ fn verdicts_have_lines(rt: HostRuntime) -> Result<(), Fail> {
 
 #[test]
 fn faults_of_joins_have_lines(rt: HostRuntime) -> Result<(), Fail> {
-    let faults: [JoinFault<usize>; 13] = [
+    let faults: [JoinFault<usize>; 12] = [
         JoinFault::OutOfMemory,
         JoinFault::NoCertificate,
         JoinFault::OtherCircuit(0, 1),
@@ -147,7 +147,6 @@ fn faults_of_joins_have_lines(rt: HostRuntime) -> Result<(), Fail> {
         JoinFault::OtherFlips(0, 1),
         JoinFault::OtherMoments(0, 1),
         JoinFault::OtherTerms(0, 1),
-        JoinFault::Open(0),
         JoinFault::Outside(0),
         JoinFault::Overlap(0, 1),
         JoinFault::Crossed(0, 1),

@@ -5,6 +5,7 @@ use Rattle.std.specs.List.{AllByRecursion}
 use Rattle.std.proofs.lemmas.List.{length-set}
 use Rattle.std.proofs.lemmas.List.Elements.{All-filter, All-contains}
 use Rattle.td_circuit.specs.Settings.{Setting}
+use Rattle.td_circuit.specs.Run.{IsDelayOfBits}
 use Rattle.td_nets.specs.Netlist.{Netlist}
 use Rattle.td_domain.specs.declared.cubes.Trit.{Trit}
 use Rattle.td_domain.specs.declared.cubes.Trit.TheVariants.{Zero, One, Free}
@@ -26,7 +27,7 @@ use Rattle.td_certificate.specs.Accepts.{SaysNone, IsEnough, IsAtMost, IsBoundWi
 use Rattle.td_certificate.proofs.TreeLaws.{trees_are_counted}
 use Rattle.td_certificate.proofs.Walking.{lines_are_walked}
 use Rattle.td_certificate.proofs.Acceptance.{at_moments}
-use Rattle.td_join.specs.Joining.{pins_of, is_zero, is_one, is_known, AreJoined, alone, missing, halved, IsAlike, AreMerged, IsClosed, IsClosedClaim, IsNotLater, AcceptedTogether}
+use Rattle.td_join.specs.Joining.{pins_of, is_zero, is_one, is_known, AreJoined, alone, missing, halved, IsAlike, AreMerged, time_of, pair_of, IsNotAbove, AcceptedTogether}
 use Rattle.td_join.proofs.Pinned.{same_pairs, same_asking, shows_wider}
 use Rattle.td_join.proofs.Cubing.{wider, filter_has, Contains-less}
 use Rattle.td_join.proofs.Restricting.{is_known_at}
@@ -37,34 +38,28 @@ use Rattle.td_gates.proofs.Places.{All-from_contains}
 abbrev some_number : ℕ → Option ℕ
 some_number x = Some x
 
--- a number up to which leaves are good, where none stands for no pair at all
-abbrev IsLess : Option ℕ → Option ℕ → Type 0
-IsLess None most = Unit {0}
-IsLess (Some least) None = ⊥
-IsLess (Some least) (Some most) = least ≤ most
-
 says_enough : (most : Option ℕ) (n : Node) → SaysNone n → IsEnough most n
 says_enough None n says = says
 says_enough (Some most) n says = tt
 
-enough_more : (least most : Option ℕ) (n : Node) → IsLess least most → IsEnough least n → IsEnough most n
+enough_more : (least most : Option ℕ) (n : Node) → IsNotAbove least most → IsEnough least n → IsEnough most n
 enough_more None most n less enough = says_enough most n enough
 enough_more (Some least) None n less enough = absurd less
 enough_more (Some least) (Some most) n less enough = tt
 
-number_more : (least most : Option ℕ) (number : ℕ) → IsLess least most → (least ≡ None → ⊥) → IsAtMost least number → IsAtMost most number
+number_more : (least most : Option ℕ) (number : ℕ) → IsNotAbove least most → (least ≡ None → ⊥) → IsAtMost least number → IsAtMost most number
 number_more None most number less some h = absurd (some refl)
 number_more (Some least) None number less some h = absurd less
 number_more (Some least) (Some most) number less some h = omega (arith, h, less)
 
-bound_more : (least most : Option ℕ) (bound : Option ℕ) → IsLess least most → (least ≡ None → bound ≡ None) → IsBoundWithin least bound → IsBoundWithin most bound
+bound_more : (least most : Option ℕ) (bound : Option ℕ) → IsNotAbove least most → (least ≡ None → bound ≡ None) → IsBoundWithin least bound → IsBoundWithin most bound
 bound_more least most None less none h = tt
 bound_more least most (Some bound) less none h = number_more least most bound less (λ is. none_some bound (none is)) h
   where
     none_some : (x : ℕ) → some_number x ≡ None → ⊥
     none_some x e = cc
 
-module _ (setting : Setting) (asking : Asking) (own : List Trit) (least most : Option ℕ) (more : IsLess least most) where
+module _ (setting : Setting) (asking : Asking) (own : List Trit) (least most : Option ℕ) (more : IsNotAbove least most) where
   -- what is said of a line holds with wider pins, where its cube is a part of its own
   of_wider : (cube : List Trit) (n : Node) → ((pair : Pair) → IsIn pair cube → IsIn pair own)
       → IsOfCube setting (same_asking asking own) cube n → IsOfCube setting asking cube n
@@ -120,7 +115,7 @@ module _ (setting : Setting) (asking : Asking) (own : List Trit) (least most : O
 record IsGoodPart (setting : Setting) (asking : Asking) (most : Option ℕ) (c : Certificate) : Type 0 where
   is_tree : IsTree c.tree
   good : AllByRecursion (IsGood setting (same_asking asking (pins_of c)) (high_of c.claim)) (lines_from (pins_of c ∷ []) c.tree)
-  less : IsLess (high_of c.claim) most
+  less : IsNotAbove (high_of c.claim) most
 
 -- the tree whose nodes these are is good
 record IsGoodTree (setting : Setting) (asking : Asking) (most : Option ℕ) (cube : List Trit) (nodes : List Node) : Type 0 where
@@ -256,24 +251,33 @@ asking_is this that keep held flips kept =
     ap (λ (a : Admitted). record { admit = a; keep = keep }) (same_question this.admit that held flips)
     ∙ ap (λ (k : List NamedCondition). record { admit = same_pairs this.admit that.pins; keep = k }) kept
 
--- the moments of claims that are closed
-less_high : (this that : Option Claim) → IsClosedClaim this → IsClosedClaim that → IsNotLater this that → IsLess (high_of this) (high_of that)
-less_high None that mine yours low = tt
-less_high (Some this) None mine yours low = absurd low
-less_high (Some this) (Some that) mine yours low = omega (arith, mine, yours, low)
+-- the pair that is claimed is one of those of the whole
+admitted_whole : (netlist : Netlist) (one other : Asking) (claim whole : Option Claim) → pair_of claim ≡ pair_of whole
+    → ((pair : Pair) → IsIn pair one.admit.pins → IsIn pair other.admit.pins)
+    → one.admit.held ≡ other.admit.held → one.admit.flips ≡ other.admit.flips → one.keep ≡ other.keep → ClaimsAdmitted netlist one claim → ClaimsAdmitted netlist other whole
+admitted_whole netlist one other claim None pair inside held flips keep admitted = tt
+admitted_whole netlist one other None (Some whole) pair inside held flips keep admitted = absurd cc
+admitted_whole netlist one other (Some claim) (Some whole) pair inside held flips keep admitted =
+    let same : claim.pair ≡ whole.pair = cc in
+    subst (λ (p : Pair). IsAskedAbout netlist other p) same (record {
+      admitted = record {
+        pinned = inside claim.pair admitted.admitted.pinned;
+        held = subst (λ (hs : List Bool). AreHeld hs claim.pair.first claim.pair.second) held admitted.admitted.held;
+        few = subst (λ (n : ℕ). flips_of claim.pair.first claim.pair.second ≤ n) flips admitted.admitted.few;
+      };
+      kept = subst (λ (keep : List NamedCondition). IsKept netlist keep claim.pair) keep admitted.kept;
+    })
 
--- the pair that is claimed is one of those of the whole, with its time
-admitted_whole : (netlist : Netlist) (one other : Asking) (claim : Option Claim) → ((pair : Pair) → IsIn pair one.admit.pins → IsIn pair other.admit.pins)
-    → one.admit.held ≡ other.admit.held → one.admit.flips ≡ other.admit.flips → one.keep ≡ other.keep → ClaimsAdmitted netlist one claim → ClaimsAdmitted netlist other claim
-admitted_whole netlist one other None inside held flips keep admitted = tt
-admitted_whole netlist one other (Some claim) inside held flips keep admitted = record {
-  admitted = record {
-    pinned = inside claim.pair admitted.admitted.pinned;
-    held = subst (λ (hs : List Bool). AreHeld hs claim.pair.first claim.pair.second) held admitted.admitted.held;
-    few = subst (λ (n : ℕ). flips_of claim.pair.first claim.pair.second ≤ n) flips admitted.admitted.few;
-  };
-  kept = subst (λ (keep : List NamedCondition). IsKept netlist keep claim.pair) keep admitted.kept;
-}
+-- the time that is claimed is that of the whole, and so is its pair
+reached_whole : (setting : Setting) (claim whole : Option Claim) → time_of claim ≡ time_of whole → pair_of claim ≡ pair_of whole
+    → ClaimsDelay setting claim → ClaimsDelay setting whole
+reached_whole setting claim None time pair reached = tt
+reached_whole setting None (Some whole) time pair reached = absurd cc
+reached_whole setting (Some claim) (Some whole) time pair reached =
+    let same : claim.pair ≡ whole.pair = cc in
+    let delay : claim.time ≡ whole.time = cc in
+    subst (λ (p : Pair). IsDelayOfBits setting p.first p.second whole.time) same
+    (subst (λ (n : ℕ). IsDelayOfBits setting claim.pair.first claim.pair.second n) delay reached)
 
 -- a whole has two pins for each input
 pins_whole : (admit : Admitted) (cube : List Trit) (certificates : List Certificate) (nodes : List Node) (count : ℕ) → AreJoined admit cube certificates nodes
@@ -294,13 +298,12 @@ pins_whole admit _ _ _ count (halved cube certificates position low high some fr
 
 pub accepted_together : AcceptedTogether
 accepted_together netlist certificates pins whole joined accepted =
-    let from : Certificate = joined.claim.certificate in
+    let from : Certificate = joined.claim.reached.certificate in
     let most : Option ℕ = high_of whole.claim in
-    let alike = All-contains (IsAlike whole) certificates from joined.alike joined.claim.among in
-    let given = All-contains (Accepts netlist) certificates from accepted joined.claim.among in
-    let low : (c : Certificate) → Contains certificates c → IsLess (high_of c.claim) most = λ c has.
-    less_high c.claim whole.claim (All-contains IsClosed certificates c joined.closed has) joined.whole_closed
-    (All-contains (λ d. IsNotLater d.claim whole.claim) certificates c joined.greatest has) in
+    let alike = All-contains (IsAlike whole) certificates from joined.alike joined.claim.reached.among in
+    let given = All-contains (Accepts netlist) certificates from accepted joined.claim.reached.among in
+    let low : (c : Certificate) → Contains certificates c → IsNotAbove (high_of c.claim) most = λ c has.
+    All-contains (λ d. IsNotAbove (high_of d.claim) most) certificates c joined.claim.highest has in
     let kept : (c : Certificate) → Contains certificates c → keep_by c.question.terms ≡ keep_by whole.question.terms =
     λ c has. keep_merged whole.question.terms c.question.terms (All-contains (λ d. AreMerged whole.question.terms d.question.terms) certificates c joined.terms has) in
     let part : (c : Certificate) → Contains certificates c → IsGoodPart (setting_of netlist whole) (asking_of whole.question) most c =
@@ -312,19 +315,18 @@ accepted_together netlist certificates pins whole joined accepted =
     ∙ ap (λ (hs : List Bool). 2 * length hs) (sym (All-contains (IsAlike whole) certificates c joined.alike has).held) in
     let long : length pins ≡ 2 * inputs_of whole.question =
     pins_whole whole.question.admit pins certificates whole.tree (2 * inputs_of whole.question) joined.tree
-    (All-from_contains (λ c. length (pins_of c) ≡ 2 * inputs_of whole.question) certificates count) from joined.claim.among in
+    (All-from_contains (λ c. length (pins_of c) ≡ 2 * inputs_of whole.question) certificates count) from joined.claim.reached.among in
     record {
       size = record {
         inputs = given.size.inputs ∙ ap (λ (hs : List Bool). length hs) (sym alike.held);
         gates = given.size.gates ∙ sym alike.gates;
         pins = ap (λ (x : List Trit). length x) joined.pins_are ∙ long;
-        fit = fits_whole from alike (kept from joined.claim.among) given.size.fit;
+        fit = fits_whole from alike (kept from joined.claim.reached.among) given.size.fit;
       };
-      admitted = subst (ClaimsAdmitted netlist (asking_of whole.question)) joined.claim.claim_is
-          (admitted_whole netlist (asking_of from.question) (asking_of whole.question) from.claim
-          (λ pair h. subst (λ (x : List Trit). IsIn pair x) (sym joined.pins_are) (parts_inside whole.question.admit pins certificates whole.tree joined.tree from joined.claim.among pair h))
-          (sym alike.held) (sym alike.flips) (kept from joined.claim.among) given.admitted);
-      reached = subst (ClaimsDelay (setting_of netlist whole)) joined.claim.claim_is
+      admitted = admitted_whole netlist (asking_of from.question) (asking_of whole.question) from.claim whole.claim joined.claim.reached.pair_is
+          (λ pair h. subst (λ (x : List Trit). IsIn pair x) (sym joined.pins_are) (parts_inside whole.question.admit pins certificates whole.tree joined.tree from joined.claim.reached.among pair h))
+          (sym alike.held) (sym alike.flips) (kept from joined.claim.reached.among) given.admitted;
+      reached = reached_whole (setting_of netlist whole) from.claim whole.claim joined.claim.reached.time_is joined.claim.reached.pair_is
           (subst (λ (ms : List ℕ). ClaimsDelay (at_moments netlist ms) from.claim) (sym alike.moments) given.reached);
       tree = subst (λ (ns : List Node). IsTree ns) tree.nodes_are (trees_are_counted.counted tree.tree);
       good = subst (λ (x : List Trit). AllByRecursion (IsGood (setting_of netlist whole) (asking_of whole.question) most) (lines_from (x ∷ []) whole.tree)) (sym joined.pins_are)
@@ -338,7 +340,7 @@ accepted_together netlist certificates pins whole joined accepted =
         ap (λ (n : ℕ). are_fit n (keep_by whole.question.terms)) (ap (λ (hs : List Bool). 2 + length hs + whole.gates) alike.held ∙ ap (λ (g : ℕ). 2 + inputs_of c.question + g) alike.gates)
         ∙ ap (are_fit (2 + inputs_of c.question + c.gates)) (sym keep) ∙ fit
 
-    good_part : (c : Certificate) → IsAlike whole c → keep_by c.question.terms ≡ keep_by whole.question.terms → Accepts netlist c → IsLess (high_of c.claim) (high_of whole.claim)
+    good_part : (c : Certificate) → IsAlike whole c → keep_by c.question.terms ≡ keep_by whole.question.terms → Accepts netlist c → IsNotAbove (high_of c.claim) (high_of whole.claim)
         → IsGoodPart (setting_of netlist whole) (asking_of whole.question) (high_of whole.claim) c
     good_part c alike keep accepts less = record {
       is_tree = accepts.tree;

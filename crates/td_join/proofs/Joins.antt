@@ -58,7 +58,6 @@ is_stuck admit cube parts (fault.OtherHold this that) clash uncut not_joinable =
 is_stuck admit cube parts (fault.OtherFlips this that) clash uncut not_joinable = absurd clash
 is_stuck admit cube parts (fault.OtherMoments this that) clash uncut not_joinable = absurd clash
 is_stuck admit cube parts (fault.OtherTerms this that) clash uncut not_joinable = absurd clash
-is_stuck admit cube parts (fault.Open this) clash uncut not_joinable = absurd clash
 is_stuck admit cube parts (fault.Outside this) clash uncut not_joinable = absurd clash
 is_stuck admit cube parts (fault.Gap gap) clash uncut not_joinable = absurd clash
 is_stuck admit cube parts (fault.FalseNone this) clash uncut not_joinable = absurd clash

@@ -20,10 +20,10 @@ use Rattle.td_certificate.specs.declared.question.Version.TheVariants.{First, Se
 use Rattle.td_certificate.specs.declared.certificate.Certificate.{Certificate}
 use Rattle.td_certificate.specs.declared.certificate.Claim.{Claim}
 use Rattle.td_certificate.specs.Questions.{Terms, Question, inputs_of, is_free, holds_none, admits_all, is_at_once, version_by, version_of}
-use Rattle.td_certificate.specs.Spelling.{HasSpelling, MayClaim, IsNode, AreTerms, version_in, latest}
+use Rattle.td_certificate.specs.Spelling.{HasSpelling, MayClaim, IsHigh, IsNode, AreTerms, greatest, version_in, latest}
 use Rattle.td_certificate.specs.Trees.{IsTree}
-use Rattle.td_certificate.proofs.Told.{one_moment}
-use Rattle.td_join.specs.Joining.{pins_of, is_zero, is_one, has_none, AreJoined, alone, missing, halved, AreMerged, IsClosedClaim, IsAlike, IsJoined}
+use Rattle.td_certificate.specs.Accepts.{high_of}
+use Rattle.td_join.specs.Joining.{pins_of, is_zero, is_one, has_none, AreJoined, alone, missing, halved, AreMerged, time_of, pair_of, IsNotAbove, IsAlike, IsJoined}
 
 -- ---- where all pairs are admitted, one lies in each cube
 
@@ -191,25 +191,64 @@ joined_nodes admit version fits _ _ _ few long none all (halved cube certificate
 
 -- ---- the whole
 
--- a text of another version can tell what is claimed
-told_claim : (mine other : Version) (count inputs : ℕ) (claim : Option Claim) → (mine ≡ Fourth → other ≡ Fourth) → count ≡ inputs → IsClosedClaim claim → MayClaim mine count claim
-    → MayClaim other inputs claim
-told_claim mine other count inputs None fourth same closed may = fourth may
-told_claim mine other count inputs (Some claim) fourth same closed may = record {
-  time = may.time;
-  high = one_moment other claim.time claim.high closed may.time;
-  first = may.first ∙ same;
-  second = may.second ∙ same;
-}
+-- before the fourth version the two moments are one
+one_high : (version : Version) (time high : ℕ) → version ≢ Fourth → IsHigh version time high → high ≡ time
+one_high First time high other h = h
+one_high Second time high other h = h
+one_high Third time high other h = h
+one_high Fourth time high other h = absurd (other refl)
+
+few_high : (version : Version) (time high : ℕ) → time ≤ greatest → IsHigh version time high → high ≤ greatest
+few_high First time high few h = omega (arith, few, h)
+few_high Second time high few h = omega (arith, few, h)
+few_high Third time high few h = omega (arith, few, h)
+few_high Fourth time high few h = h
+
+is_high : (version : Version) (time high : ℕ) → (version ≢ Fourth → high ≡ time) → high ≤ greatest → IsHigh version time high
+is_high First time high one few = one (λ e. absurd cc)
+is_high Second time high one few = one (λ e. absurd cc)
+is_high Third time high one few = one (λ e. absurd cc)
+is_high Fourth time high one few = few
+
+-- what two certificates tell, the one with the time and the other with the high, the whole can tell
+told_claim : (late high whole : Version) (count others inputs : ℕ) (mine yours claim : Option Claim) → (late ≡ Fourth → whole ≡ Fourth) → (high ≡ Fourth → whole ≡ Fourth)
+    → count ≡ inputs → time_of mine ≡ time_of claim → pair_of mine ≡ pair_of claim → high_of yours ≡ high_of claim
+    → IsNotAbove (time_of yours) (time_of claim) → IsNotAbove (high_of mine) (high_of claim) → MayClaim late count mine → MayClaim high others yours
+    → MayClaim whole inputs claim
+told_claim late high whole count others inputs None yours None lates highs same time pair top few least may can = lates may
+told_claim late high whole count others inputs (Some mine) yours None lates highs same time pair top few least may can = absurd cc
+told_claim late high whole count others inputs None yours (Some claim) lates highs same time pair top few least may can = absurd cc
+told_claim late high whole count others inputs (Some mine) None (Some claim) lates highs same time pair top few least may can = absurd cc
+told_claim late high whole count others inputs (Some mine) (Some yours) (Some claim) lates highs same time pair top few least may can =
+    let reached : mine.time ≡ claim.time = cc in
+    let shown : mine.pair ≡ claim.pair = cc in
+    let bounded : yours.high ≡ claim.high = cc in
+    record {
+      time = omega (arith, reached, may.time);
+      high = is_high whole claim.time claim.high
+          (λ other. omega (
+            arith,
+            reached,
+            bounded,
+            few,
+            least,
+            one_high late mine.time mine.high (λ e. other (lates e)) may.high,
+            one_high high yours.time yours.high (λ e. other (highs e)) can.high,
+          ))
+          (omega (arith, bounded, few_high high yours.time yours.high can.time can.high));
+      first = ap (λ (p : Pair). length p.first) (sym shown) ∙ may.first ∙ same;
+      second = ap (λ (p : Pair). length p.second) (sym shown) ∙ may.second ∙ same;
+    }
 
 pub spelled_together : (certificates : List Certificate) (pins : List Trit) (whole : Certificate) → IsJoined certificates pins whole
     → length whole.question.admit.pins ≡ 2 * inputs_of whole.question
     → (version_of whole.question ≡ First → All (λ c. has_none c.tree ≡ false) certificates) → IsTree whole.tree
     → All HasSpelling certificates → HasSpelling whole
 spelled_together certificates pins whole joined fits reported tree all =
-    let from : Certificate = joined.claim.certificate in
-    let alike = All-contains (IsAlike whole) certificates from joined.alike joined.claim.among in
-    let given = All-contains HasSpelling certificates from all joined.claim.among in
+    let from : Certificate = joined.claim.reached.certificate in
+    let high : Certificate = joined.claim.bounded.certificate in
+    let alike = All-contains (IsAlike whole) certificates from joined.alike joined.claim.reached.among in
+    let given = All-contains HasSpelling certificates from all joined.claim.reached.among in
     let same : inputs_of whole.question ≡ inputs_of from.question = ap (λ (hs : List Bool). length hs) alike.held in
     let few : length whole.question.admit.pins ≤ 8192 = omega (arith, fits, same, given.inputs) in
     let merged = λ (c : Certificate) (has : Contains certificates c). All-contains (λ d. AreMerged whole.question.terms d.question.terms) certificates c joined.terms has in
@@ -222,8 +261,13 @@ spelled_together certificates pins whole joined fits reported tree all =
       count = ap (λ (ms : List ℕ). length ms) alike.moments ∙ given.count ∙ sym same;
       moments = subst (λ (ms : List ℕ). AllByRecursion (λ moment. moment ≤ latest) ms) (sym alike.moments) given.moments;
       terms = subst AreTerms joined.told.terms_are teller.terms;
-      claim = told_claim (version_in from) (version_in whole) (inputs_of from.question) (inputs_of whole.question) whole.claim (merged_fourth whole.question from.question (merged from joined.claim.among))
-          (sym same) joined.whole_closed (subst (MayClaim (version_in from) (inputs_of from.question)) joined.claim.claim_is given.claim);
+      claim = told_claim (version_in from) (version_in high) (version_in whole) (inputs_of from.question) (inputs_of high.question) (inputs_of whole.question)
+          from.claim high.claim whole.claim
+          (merged_fourth whole.question from.question (merged from joined.claim.reached.among)) (merged_fourth whole.question high.question (merged high joined.claim.bounded.among))
+          (sym same) joined.claim.reached.time_is joined.claim.reached.pair_is joined.claim.bounded.high_is
+          (All-contains (λ c. IsNotAbove (time_of c.claim) (time_of whole.claim)) certificates high joined.claim.greatest joined.claim.bounded.among)
+          (All-contains (λ c. IsNotAbove (high_of c.claim) (high_of whole.claim)) certificates from joined.claim.highest joined.claim.reached.among)
+          given.claim (All-contains HasSpelling certificates high all joined.claim.bounded.among).claim;
       nodes = joined_nodes whole.question.admit (version_in whole) (length whole.question.admit.pins) pins certificates whole.tree few
           (ap (λ (cube : List Trit). length cube) (sym joined.pins_are))
           (λ other long none first. none (each_has whole.question.admit other (all_admitted whole.question first) fits long))

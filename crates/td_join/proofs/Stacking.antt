@@ -290,6 +290,5 @@ module _ (certificates : List Certificate) (admit : Admitted) where
   tree_fault group (fault.OtherFlips this that) known stuck = absurd stuck.0
   tree_fault group (fault.OtherMoments this that) known stuck = absurd stuck.0
   tree_fault group (fault.OtherTerms this that) known stuck = absurd stuck.0
-  tree_fault group (fault.Open this) known stuck = absurd stuck.0
   tree_fault group (fault.Outside this) known stuck = absurd stuck.0
   tree_fault group (fault.FalseNone this) known stuck = absurd stuck.0

@@ -9,7 +9,7 @@ use Rattle.td_certificate.specs.declared.certificate.Claim.{Claim}
 use Rattle.td_certificate.specs.declared.question.Version.TheVariants.{First}
 use Rattle.td_certificate.specs.Questions.{Question, version_of, keep_by}
 use Rattle.td_gates.proofs.Places.{slice_get-Contains, slice_get-within}
-use Rattle.td_join.specs.Joining.{with_pins, AreJoined, AreMerged, HasTerms, IsClosed, IsClosedClaim, IsNotLater, IsAlike, IsJoined}
+use Rattle.td_join.specs.Joining.{with_pins, AreJoined, AreMerged, HasTerms, IsWholeClaim, IsAlike, IsJoined}
 use Rattle.td_domain.specs.Admits.{Admitted}
 use Rattle.td_join.specs.declared.fault.JoinFault.{JoinFault}
 use Rattle.td_join.specs.declared.fault.JoinFault.TheVariants as fault
@@ -23,26 +23,20 @@ use Rattle.td_join.proofs.Pinned.{same_pairs}
 abbrev pub whole_of : ℕ → Question → Option Claim → List Node → Certificate
 whole_of gates question claim tree = record { gates = gates; question = question; claim = claim; tree = tree }
 
-pub is_joined : (certificates : List Certificate) (gates : ℕ) (question : Question) (first : Certificate) (place : ℕ) (claim : Option Claim) (tree nodes : List Node)
-    → slice_get certificates place ≡ Some first → All (IsOfQuestion gates question) certificates → All (λ c. IsNotLater c.claim first.claim) certificates
-    → claim ≡ first.claim → nodes ≡ tree → AreJoined question.admit question.admit.pins certificates tree
+pub is_joined : (certificates : List Certificate) (gates : ℕ) (question : Question) (claim : Option Claim) (tree nodes : List Node)
+    → All (IsOfQuestion gates question) certificates → IsWholeClaim certificates claim
+    → nodes ≡ tree → AreJoined question.admit question.admit.pins certificates tree
     → All (λ c. AreMerged question.terms c.question.terms) certificates → HasTerms certificates question.terms
-    → All IsClosed certificates
     → IsJoined certificates question.admit.pins (whole_of gates question claim nodes)
-is_joined certificates gates question first place claim tree nodes at alike greatest copied same joined terms told closed =
-    let among = slice_get-Contains certificates place first at in
-    record {
-      alike = All-weaker (IsOfQuestion gates question) (IsAlike (whole_of gates question claim nodes))
-          (λ c h. record { gates = h.gates_are; held = h.held; flips = h.flips; moments = h.moments }) certificates alike;
-      pins_are = refl;
-      tree = subst (λ (ns : List Node). AreJoined question.admit question.admit.pins certificates ns) (sym same) joined;
-      greatest = subst (λ (it : Option Claim). All (λ c. IsNotLater c.claim it) certificates) (sym copied) greatest;
-      claim = record { certificate = first; among = among; claim_is = sym copied };
-      terms = terms;
-      told = told;
-      closed = closed;
-      whole_closed = subst IsClosedClaim (sym copied) (All-contains IsClosed certificates first closed among);
-    }
+is_joined certificates gates question claim tree nodes alike claimed same joined terms told = record {
+  alike = All-weaker (IsOfQuestion gates question) (IsAlike (whole_of gates question claim nodes))
+      (λ c h. record { gates = h.gates_are; held = h.held; flips = h.flips; moments = h.moments }) certificates alike;
+  pins_are = refl;
+  tree = subst (λ (ns : List Node). AreJoined question.admit question.admit.pins certificates ns) (sym same) joined;
+  claim = claimed;
+  terms = terms;
+  told = told;
+}
 
 -- ---- faults
 
@@ -60,9 +54,9 @@ module _ (certificates : List Certificate) (gates : ℕ) (question : Question) (
 
   unjoinable : (¬ IsJoinable question.admit question.admit.pins certificates) → IsUnjoinable certificates question.admit.pins
   unjoinable none whole joined =
-      let c = joined.claim.certificate in
-      let mine = of_first c joined.claim.among in
-      let yours = All-contains (IsAlike whole) certificates c joined.alike joined.claim.among in
+      let c = joined.told.certificate in
+      let mine = of_first c joined.told.among in
+      let yours = All-contains (IsAlike whole) certificates c joined.alike joined.told.among in
       let same : whole.question.admit ≡ question.admit =
       same_admit whole.question.admit c.question.admit yours.held yours.flips
       ∙ ap (λ (x : List Trit). same_pairs c.question.admit x) joined.pins_are ∙ sym mine in
@@ -81,7 +75,6 @@ module _ (certificates : List Certificate) (gates : ℕ) (question : Question) (
   reported (fault.OtherFlips this that) h = absurd h
   reported (fault.OtherMoments this that) h = absurd h
   reported (fault.OtherTerms this that) h = absurd h
-  reported (fault.Open this) h = absurd h
   reported (fault.Outside this) h = absurd h
   reported (fault.FalseNone this) h = absurd h
 

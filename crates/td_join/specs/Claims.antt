@@ -1,13 +1,12 @@
--- Internal: a time beside that of a claim.
-use Rattle.std.specs.Prelude.{ℕ, ◌≤◌, Option, Some, None}
+-- Internal: a claim with the other moment of another one.
+use Rattle.std.specs.Prelude.{ℕ, Option, Some, None}
 use Rattle.td_certificate.specs.declared.certificate.Claim.{Claim}
 
--- the claim's time, if it has one, is at most this
-abbrev pub IsBelow : Option Claim → ℕ → Type 0
-IsBelow None time = Unit {0}
-IsBelow (Some claim) time = claim.time ≤ time
+-- the claim, with the moment after which, by the other one, no admitted pair changes an output
+abbrev pub high_or : ℕ → Option Claim → ℕ
+high_or high None = high
+high_or high (Some other) = other.high
 
--- this is at most the claim's time
-abbrev pub IsAtMost : ℕ → Option Claim → Type 0
-IsAtMost time None = ⊥
-IsAtMost time (Some claim) = time ≤ claim.time
+abbrev pub raised : Option Claim → Option Claim → Option Claim
+raised None other = None
+raised (Some claim) other = Some (record claim { high = high_or claim.high other })

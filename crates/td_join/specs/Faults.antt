@@ -13,7 +13,7 @@ use Rattle.td_certificate.specs.Questions.{inputs_of, version_of}
 use Rattle.td_certificate.specs.Accepts.{Accepts}
 use Rattle.td_join.specs.declared.fault.JoinFault.{JoinFault}
 use Rattle.td_join.specs.declared.fault.JoinFault.TheVariants as fault
-use Rattle.td_join.specs.Joining.{pins_of, with_pins, has_none, zeros, ones, AreKnownAt, AreMerged, IsClosedClaim, IsJoined}
+use Rattle.td_join.specs.Joining.{pins_of, with_pins, has_none, zeros, ones, AreKnownAt, AreMerged, IsJoined}
 
 -- the fault with each certificate that it tells told by this in its place
 abbrev pub renamed : {A B : Type 0} → (A → B) → JoinFault A → JoinFault B
@@ -24,7 +24,6 @@ renamed name (fault.OtherHold this that) = fault.OtherHold (name this) (name tha
 renamed name (fault.OtherFlips this that) = fault.OtherFlips (name this) (name that)
 renamed name (fault.OtherMoments this that) = fault.OtherMoments (name this) (name that)
 renamed name (fault.OtherTerms this that) = fault.OtherTerms (name this) (name that)
-renamed name (fault.Open this) = fault.Open (name this)
 renamed name (fault.Outside this) = fault.Outside (name this)
 renamed name (fault.Overlap this that) = fault.Overlap (name this) (name that)
 renamed name (fault.Crossed this that) = fault.Crossed (name this) (name that)
@@ -63,17 +62,6 @@ pub record IsOtherTermsIn (certificates : List Certificate) (reported : JoinFaul
   pub first_at : slice_get certificates at ≡ Some first
   pub other_at : slice_get certificates place ≡ Some other
   pub unlike : IsOtherTerms first at other place reported
-
--- a certificate tells no worst delay: the two moments that it claims aren't one
-abbrev pub IsOpen : Certificate → ℕ → JoinFault ℕ → Type 0
-IsOpen certificate place (fault.Open this) = (this ≡ place) × (¬ IsClosedClaim certificate.claim)
-IsOpen certificate place fault = ⊥
-
-pub record IsOpenIn (certificates : List Certificate) (reported : JoinFault ℕ) : Type 0 where
-  pub certificate : Certificate
-  pub place : ℕ
-  pub at : slice_get certificates place ≡ Some certificate
-  pub is_open : IsOpen certificate place reported
 
 -- the cube is a part of the pins: it has as many positions, and each bit that is known in them
 pub record IsInside (pins cube : List Trit) : Type 0 where
@@ -170,5 +158,4 @@ IsJoinFault certificates pins (fault.Gap cube) =
     (first : Certificate) × (slice_get certificates 0 ≡ Some first) × IsGap (record first.question.admit { pins = pins }) certificates cube
 IsJoinFault certificates pins (fault.FalseNone place) = IsFalseNone certificates pins place
 IsJoinFault certificates pins (fault.OtherTerms this that) = IsOtherTermsIn certificates (fault.OtherTerms this that)
-IsJoinFault certificates pins (fault.Open place) = IsOpenIn certificates (fault.Open place)
 IsJoinFault certificates pins fault = IsUnlikeIn certificates fault

@@ -1,5 +1,5 @@
 -- Certificates of the parts of a question, joined into one.
-use Rattle.std.specs.Prelude.{◌≡◌, ◌≢◌, ℕ, ◌≤◌, Bool, true, false, List, [], ◌∷◌, ◌++◌, All, Contains, filter, slice_get, Option, Some, None, ◌⊎◌}
+use Rattle.std.specs.Prelude.{◌≡◌, ◌≢◌, ℕ, ◌≤◌, Bool, true, false, List, [], ◌∷◌, ◌++◌, All, Contains, filter, slice_get, option_map, Option, Some, None, ◌⊎◌}
 use Rattle.std.specs.List.{list_any}
 use Rattle.std.specs.List.Sorted.{IsPermutation}
 use Rattle.td_nets.specs.Netlist.{Netlist}
@@ -13,7 +13,7 @@ use Rattle.td_certificate.specs.declared.certificate.Certificate.{Certificate}
 use Rattle.td_certificate.specs.declared.certificate.Claim.{Claim}
 use Rattle.td_certificate.specs.Cubes.{zero_side, one_side}
 use Rattle.td_certificate.specs.Questions.{Terms, Question, keep_by}
-use Rattle.td_certificate.specs.Accepts.{Accepts}
+use Rattle.td_certificate.specs.Accepts.{high_of, Accepts}
 
 -- the cube that a certificate's admitted pairs lie in
 abbrev pub pins_of : Certificate → List Trit
@@ -90,43 +90,51 @@ pub record HasTerms (certificates : List Certificate) (terms : Option Terms) : T
   pub among : Contains certificates certificate
   pub terms_are : certificate.question.terms ≡ terms
 
--- the two moments that are claimed are one: the time is the worst delay; or no pair is claimed
-abbrev pub IsClosedClaim : Option Claim → Type 0
-IsClosedClaim None = Unit {0}
-IsClosedClaim (Some claim) = claim.high ≡ claim.time
-
-abbrev pub IsClosed : Certificate → Type 0
-IsClosed c = IsClosedClaim c.claim
-
--- a claim's time is at most that of another one; one that no pair is admitted is at most any
-abbrev pub IsNotLater : Option Claim → Option Claim → Type 0
-IsNotLater None that = Unit {0}
-IsNotLater (Some this) None = ⊥
-IsNotLater (Some this) (Some that) = this.time ≤ that.time
-
+-- the moment of a claim that its pair reaches, and the pair
 abbrev pub time_of : Option Claim → Option ℕ
-time_of None = None
-time_of (Some claim) = Some claim.time
+time_of claim = option_map (λ (it : Claim). it.time) claim
 
--- some certificate claims this
-pub record HasClaim (certificates : List Certificate) (claim : Option Claim) : Type 0 where
+abbrev pub pair_of : Option Claim → Option Pair
+pair_of claim = option_map (λ (it : Claim). it.pair) claim
+
+-- a moment is at most another one; none is at most any, and no moment is at most none
+abbrev pub IsNotAbove : Option ℕ → Option ℕ → Type 0
+IsNotAbove None that = Unit {0}
+IsNotAbove (Some this) None = ⊥
+IsNotAbove (Some this) (Some that) = this ≤ that
+
+-- a certificate's claim has this time and this pair, or it claims none, as this
+pub record HasReached (certificates : List Certificate) (claim : Option Claim) : Type 0 where
   pub certificate : Certificate
   pub among : Contains certificates certificate
-  pub claim_is : certificate.claim ≡ claim
+  pub time_is : time_of certificate.claim ≡ time_of claim
+  pub pair_is : pair_of certificate.claim ≡ pair_of claim
+
+-- a certificate's claim has this high, or it claims none, as this
+pub record HasHigh (certificates : List Certificate) (claim : Option Claim) : Type 0 where
+  pub certificate : Certificate
+  pub among : Contains certificates certificate
+  pub high_is : high_of certificate.claim ≡ high_of claim
+
+-- It claims the greatest time of the certificates, of the pair that has it by one of them, and the
+-- greatest high of all. One that claims that no pair is admitted counts for nothing; if all do, so
+-- does it.
+pub record IsWholeClaim (certificates : List Certificate) (claim : Option Claim) : Type 0 where
+  pub greatest : All (λ c. IsNotAbove (time_of c.claim) (time_of claim)) certificates
+  pub reached : HasReached certificates claim
+  pub highest : All (λ c. IsNotAbove (high_of c.claim) (high_of claim)) certificates
+  pub bounded : HasHigh certificates claim
 
 -- The certificates are joined into one with these pins. It is of the same circuit and question but
 -- for the pins, and tells the terms that one of them tells; its tree is theirs joined, and it claims
--- what one of them does whose time is the greatest of theirs.
+-- what they do together.
 pub record IsJoined (certificates : List Certificate) (pins : List Trit) (whole : Certificate) : Type 0 where
   pub alike : All (IsAlike whole) certificates
   pub pins_are : pins_of whole ≡ pins
   pub tree : AreJoined whole.question.admit pins certificates whole.tree
-  pub greatest : All (λ c. IsNotLater c.claim whole.claim) certificates
-  pub claim : HasClaim certificates whole.claim
+  pub claim : IsWholeClaim certificates whole.claim
   pub terms : All (λ c. AreMerged whole.question.terms c.question.terms) certificates
   pub told : HasTerms certificates whole.question.terms
-  pub closed : All IsClosed certificates
-  pub whole_closed : IsClosed whole
 
 -- ---- the least cube with the pins of all
 
@@ -158,7 +166,8 @@ abbrev pub AcceptedTogether : Type 0
 AcceptedTogether = (netlist : Netlist) (certificates : List Certificate) (pins : List Trit) (whole : Certificate)
     → IsJoined certificates pins whole → All (Accepts netlist) certificates → Accepts netlist whole
 
--- the time of the whole is the same in whatever order its parts come
+-- the two moments that the whole claims are the same in whatever order its parts come
 abbrev pub SameTime : Type 0
 SameTime = (these those : List Certificate) (pins others : List Trit) (this that : Certificate) → IsPermutation these those
-    → IsJoined these pins this → IsJoined those others that → time_of this.claim ≡ time_of that.claim
+    → IsJoined these pins this → IsJoined those others that
+    → (time_of this.claim ≡ time_of that.claim) × (high_of this.claim ≡ high_of that.claim)

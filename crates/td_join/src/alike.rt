@@ -2,12 +2,12 @@
 
 ghost use Rattle.std.specs.Prelude.{◌≡◌, ◌↔◌, IsTrue, IfErr, OnOk, All, slice_get, Some};
 ghost use Rattle.td_certificate.specs.Trees.{IsTree};
-ghost use Rattle.td_join.specs.Faults.{IsUnlike, IsUnlikeIn, IsOpen, IsOpenIn};
-ghost use Rattle.td_join.specs.Joining.{IsAlike, IsClosed, IsClosedClaim};
+ghost use Rattle.td_join.specs.Faults.{IsUnlike, IsUnlikeIn};
+ghost use Rattle.td_join.specs.Joining.{IsAlike};
 ghost use Rattle.td_join.specs.Steps.{HasFit};
 
 use crate::fault::JoinFault;
-use td_certificate::{Certificate, Claim};
+use td_certificate::Certificate;
 
 /// Whether the same inputs are held.
 fn hold_alike(this: &[bool], that: &[bool]) -> bool
@@ -54,41 +54,6 @@ pub fn all_alike(first: &Certificate, certificates: &[Certificate]) -> Result<()
 {
     for (place, other) in certificates.iter().enumerate() {
         alike(first, place, other)?;
-    }
-    Ok(())
-}
-
-/// Whether the two moments that are claimed, if they are, are one.
-fn is_closed(claim: &Option<Claim>) -> bool
-    ensures { IsTrue result ↔ IsClosedClaim claim.now }
-{
-    match claim {
-        None => true,
-        Some(claim) => claim.high == claim.time,
-    }
-}
-
-/// Whether a certificate tells a worst delay, or that no pair is admitted. The error says that it
-/// doesn't.
-fn closed(place: usize, certificate: &Certificate) -> Result<(), JoinFault<usize>>
-    ensures closed { OnOk result (IsClosed certificate.now) }
-    ensures fault { IfErr result (IsOpen certificate.now place) }
-{
-    if is_closed(&certificate.claim) {
-        Ok(())
-    } else {
-        Err(JoinFault::Open(place))
-    }
-}
-
-/// Whether all certificates tell a worst delay, or that no pair is admitted. The error says which
-/// doesn't.
-pub fn all_closed(certificates: &[Certificate]) -> Result<(), JoinFault<usize>>
-    ensures closed { OnOk result (All IsClosed certificates.now) }
-    ensures fault { IfErr result (IsOpenIn certificates.now) }
-{
-    for (place, certificate) in certificates.iter().enumerate() {
-        closed(place, certificate)?;
     }
     Ok(())
 }

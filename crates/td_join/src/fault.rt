@@ -29,9 +29,6 @@ pub enum JoinFault<P> {
     /// The two tell other delays of gates that state none, or other outputs.
     #[error("other terms")]
     OtherTerms(P, P),
-    /// It leaves the worst delay open: no admitted pair is later than a moment above its time.
-    #[error("it is open")]
-    Open(P),
     /// Its pins aren't a part of the pins of the whole.
     #[error("other pins")]
     Outside(P),

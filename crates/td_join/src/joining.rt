@@ -7,13 +7,13 @@ ghost use Rattle.td_certificate.specs.declared.certificate.Certificate.{Certific
 ghost use Rattle.td_certificate.specs.Accepts.{Accepts};
 ghost use Rattle.td_certificate.specs.Spelling.{HasSpelling};
 ghost use Rattle.td_certificate.specs.Trees.{IsTree};
-ghost use Rattle.td_join.specs.Joining.{pins_of, whole_question, AreMerged, HasTerms, IsClosed, IsNotLater, IsAlike, IsJoined, hull};
-ghost use Rattle.td_join.specs.Claims.{IsBelow, IsAtMost};
+ghost use Rattle.td_join.specs.Joining.{pins_of, whole_question, AreMerged, HasTerms, IsAlike, IsJoined, hull};
 ghost use Rattle.td_join.specs.Faults.{IsInside, IsJoinFault};
 ghost use Rattle.td_join.specs.Steps.{HasFit};
 ghost use Rattle.td_join.specs.Stacks.{IsOfQuestion};
 
-use crate::alike::{all_alike, all_closed};
+use crate::alike::all_alike;
+use crate::claims::claim_of;
 use crate::fault::JoinFault;
 use crate::growing::joined_nodes;
 use crate::hulls::{all_inside, hull};
@@ -21,59 +21,8 @@ use crate::nones::without_false_none;
 use crate::parts::numbered;
 use crate::terms::merged_terms;
 use std::alloc::{AllocError, Global};
-use td_certificate::{Certificate, Claim, Question, Terms, Tree};
+use td_certificate::{Certificate, Question, Terms, Tree};
 use td_domain::{Admit, Cube};
-
-/// Whether a claim's time is above that of another one.
-fn is_later(this: &Option<Claim>, that: &Option<Claim>) -> bool
-    ensures later { result ≡ true → IsNotLater that.now this.now }
-    ensures not_later { result ≡ false → IsNotLater this.now that.now }
-{
-    match this {
-        None => false,
-        Some(this) => is_above(this.time, that),
-    }
-}
-
-/// Whether a time is above that of a claim.
-fn is_above(time: u64, that: &Option<Claim>) -> bool
-    ensures above { result ≡ true → IsBelow that.now time }
-    ensures not_above { result ≡ false → IsAtMost time that.now }
-{
-    match that {
-        None => true,
-        Some(that) => time > that.time,
-    }
-}
-
-/// The claim, copied. The error is out of memory.
-fn copied(alloc: Global, claim: &Option<Claim>) -> Result<Option<Claim>, AllocError>
-    ensures { IfOk result (λ copy. copy ≡ claim.now) }
-{
-    match claim {
-        None => Ok(None),
-        Some(claim) => Ok(Some(Claim {
-            time: claim.time,
-            high: claim.high,
-            pair: claim.pair.copy(alloc)?,
-        })),
-    }
-}
-
-/// The place of a certificate with the greatest time.
-fn greatest(certificates: &[Certificate]) -> usize
-    requires { 0 < length certificates.now }
-    ensures within { result < length certificates.now }
-    ensures greatest { (worst : Reported) → slice_get certificates.now result ≡ Some worst → All (λ c. IsNotLater c.claim worst.claim) certificates.now }
-{
-    let mut greatest = 0;
-    for (place, certificate) in certificates.iter().enumerate() {
-        if is_later(&certificate.claim, &certificates[greatest].claim) {
-            greatest = place;
-        }
-    }
-    greatest
-}
 
 /// Joins certificates that are of one circuit and one question but for their pins.
 fn join_alike(
@@ -89,7 +38,6 @@ fn join_alike(
     requires within { All (λ c. IsInside question.admit.pins (pins_of c)) certificates.items }
     requires terms { All (λ c. AreMerged question.terms c.question.terms) certificates.items }
     requires told { HasTerms certificates.items question.terms }
-    requires closed { All IsClosed certificates.items }
     ensures joined { IfOk result (IsJoined certificates.items question.admit.pins) }
     ensures accepted { IfOk result (λ whole. (netlist : Netlist) → All (Accepts netlist) certificates.items → Accepts netlist whole) }
     ensures spelled { IfOk result (λ whole. All HasSpelling certificates.items → HasSpelling whole) }
@@ -99,8 +47,7 @@ fn join_alike(
     let admit = question.admit();
     // For the prover: this call says that there are two pins for each input.
     let _fit = admit.pins();
-    let first = &certificates[greatest(&certificates)];
-    let claim = copied(alloc, &first.claim)?;
+    let claim = claim_of(alloc, &certificates)?;
     let parts = numbered(alloc, certificates)?;
     let nodes = joined_nodes(alloc, admit, parts)?;
     Ok(Certificate {
@@ -126,8 +73,8 @@ fn alike_first(certificates: &[Certificate]) -> Result<&Certificate, JoinFault<u
     Ok(first)
 }
 
-/// The question of the whole: that of the first certificate, with these pins and terms. The error is
-/// out of memory.
+/// The question of the whole: that of the first certificate, with these pins and terms. The error
+/// is out of memory.
 fn question_with(
     alloc: Global,
     first: &Certificate,
@@ -155,11 +102,10 @@ fn question_with(
 ///
 /// # Errors
 ///
-/// One that is there of: no certificate; one that isn't as the first; one that tells neither a worst delay nor that no
-/// pair is admitted;
-/// one whose pins aren't a part of these; two that tell other terms; a leaf of one that says that no
-/// admitted pair lies in its cube, where all pairs are admitted; what keeps them from being joined.
-/// `OutOfMemory` where a growth was refused.
+/// One that is there of: no certificate; one that isn't as the first; one whose pins aren't a part
+/// of these; two that tell other terms; a leaf of one that says that no admitted pair lies in its
+/// cube, where all pairs are admitted; what keeps them from being joined. `OutOfMemory` where a
+/// growth was refused.
 pub fn join_in(
     alloc: Global,
     certificates: Vec<Certificate>,
@@ -173,7 +119,6 @@ pub fn join_in(
     ensures fault { IfErr result (IsJoinFault certificates.items pins.now) }
 {
     let first = alike_first(&certificates)?;
-    all_closed(&certificates)?;
     all_inside(&certificates, pins)?;
     let gates = first.gates;
     let terms = merged_terms(alloc, &certificates)?;

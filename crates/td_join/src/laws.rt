@@ -7,7 +7,7 @@ pub fn accepted_together()
     ensures { AcceptedTogether }
 {}
 
-/// The time of what certificates are joined into is the same in whatever order they come.
+/// What certificates are joined into claims the same two moments in whatever order they come.
 pub fn same_time()
     ensures { SameTime }
 {}

@@ -2,6 +2,7 @@
 #![tactic(auto)]
 
 mod alike;
+mod claims;
 mod fault;
 mod growing;
 mod hulls;

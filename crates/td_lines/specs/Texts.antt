@@ -1,5 +1,5 @@
 -- The text of a report.
-use Rattle.std.specs.Prelude.{ℕ, Bool, true, false, List, [], ◌∷◌, ◌++◌, map, codes, decimal, Option, Some, None, ◌==◌, if◌then◌else◌}
+use Rattle.std.specs.Prelude.{ℕ, ◌-◌, nat_lt, Bool, true, false, List, [], ◌∷◌, ◌++◌, map, codes, decimal, Option, Some, None, ◌==◌, if◌then◌else◌}
 use Rattle.std.specs.List.{flat_map}
 use Rattle.td_gates.specs.declared.primitives.Kind.{Kind}
 use Rattle.td_gates.specs.declared.primitives.Kind.TheVariants as kind
@@ -22,6 +22,7 @@ use Rattle.td_lines.specs.declared.line.Part.{Part}
 use Rattle.td_lines.specs.declared.line.Found.{Found}
 use Rattle.td_lines.specs.declared.line.Found.TheVariants as found
 use Rattle.td_lines.specs.declared.line.Changes.{Changes}
+use Rattle.td_lines.specs.declared.line.Requirement.{Requirement}
 use Rattle.td_lines.specs.declared.line.Row.{Row}
 use Rattle.td_lines.specs.declared.line.Hazard.{Hazard}
 use Rattle.td_lines.specs.declared.line.Hazard.TheVariants as hazard
@@ -104,13 +105,15 @@ figure_key figure.Earliest = codes "earliest"
 abbrev pub bound_line : Figure → Option ℕ → List ℕ
 bound_line by bound = figure_key by ++ codes " " ++ bound_text bound ++ newline
 
-abbrev pub between_line : ℕ → ℕ → List ℕ
-between_line low high = codes "between " ++ decimal low ++ codes " " ++ decimal high ++ newline
+-- what says a lower and an upper figure, after these words
+abbrev pub figures_line : List ℕ → ℕ → ℕ → List ℕ
+figures_line front low high = front ++ decimal low ++ codes " " ++ decimal high ++ newline
 
 abbrev pub cause_line : Cause → List ℕ
 cause_line cause.Budget = codes "cause budget" ++ newline
 cause_line cause.Memory = codes "cause memory" ++ newline
 cause_line cause.Time = codes "cause time" ++ newline
+cause_line cause.Stop = codes "cause stop" ++ newline
 cause_line cause.Required = codes "cause required" ++ newline
 
 abbrev pub standing_text : Standing → List ℕ
@@ -158,9 +161,28 @@ changes_text None = []
 changes_text (Some changes) =
     codes " rise " ++ column_text changes.rise ++ codes " fall " ++ column_text changes.fall ++ codes " glitch " ++ column_text changes.glitch
 
+-- a required moment less a figure, below 0 where the figure is later
+abbrev pub slack_text : ℕ → ℕ → List ℕ
+slack_text moment figure = if nat_lt moment figure then codes "-" ++ decimal (figure - moment) else decimal (moment - figure)
+
+-- that of the figure; of two figures both, the lower slack first, which is that of the upper figure;
+-- `none` in place of that of a figure that isn't known, and of both where there is no pair
+abbrev pub slacks_text : ℕ → Found → List ℕ
+slacks_text moment (found.Exact time) = slack_text moment time
+slacks_text moment (found.Between low high) = slack_text moment high ++ codes ".." ++ slack_text moment low
+slacks_text moment (found.AtMost high) = slack_text moment high ++ codes "..none"
+slacks_text moment found.NoPair = codes "none"
+
+-- how a required moment stands, and its slack, where one is required
+abbrev pub requirement_text : Option Requirement → Found → List ℕ
+requirement_text None found = []
+requirement_text (Some required) found =
+    codes " required " ++ standing_text required.standing ++ codes " slack " ++ slacks_text required.moment found
+
 abbrev pub row_line : Row → List ℕ
 row_line row =
-    codes "each " ++ row.output ++ codes " " ++ found_text row.found ++ edges_text row.edges ++ changes_text row.changes ++ newline
+    codes "each " ++ row.output ++ codes " " ++ found_text row.found ++ edges_text row.edges ++ changes_text row.changes
+    ++ requirement_text row.required row.found ++ newline
 
 -- a pair of vectors, or why there is none
 abbrev pub hazard_text : Hazard → List ℕ
@@ -201,11 +223,6 @@ place_text (Some line) = codes " line " ++ decimal line
 abbrev pub refused_line : ℕ → List ℕ → Option ℕ → List ℕ
 refused_line number name line = codes "refused " ++ decimal number ++ codes " " ++ name ++ place_text line ++ newline
 
--- the time of a certificate that leaves the worst delay open, and the moment after which no admitted
--- pair changes an output
-abbrev pub accepted_line : ℕ → ℕ → List ℕ
-accepted_line time high = codes "accepted between " ++ decimal time ++ codes " " ++ decimal high ++ newline
-
 abbrev pub default_line : ℕ → ℕ → List ℕ
 default_line rise fall = codes "default " ++ decimal rise ++ codes " " ++ decimal fall ++ newline
 
@@ -230,7 +247,7 @@ line_text (line.Output name) = word_line (codes "output ") name
 line_text (line.Changes rows) = flat_map change_line rows.items
 line_text (line.Bound by moment) = bound_line by moment
 line_text (line.Exact time) = number_line (codes "exact ") time
-line_text (line.Between low high) = between_line low high
+line_text (line.Between low high) = figures_line (codes "between ") low high
 line_text (line.AtMost high) = number_line (codes "between none ") high
 line_text line.NoPair = codes "none" ++ newline
 line_text (line.Cause why) = cause_line why
@@ -242,9 +259,10 @@ line_text (line.Each rows) = flat_map row_line rows.items
 line_text (line.Hazards rows) = flat_map hazard_line rows.items
 line_text (line.Parts parts) = flat_map part_line parts.items
 line_text (line.Accepted time) = number_line (codes "accepted ") time
-line_text (line.AcceptedBetween time high) = accepted_line time high
+line_text (line.AcceptedBetween time high) = figures_line (codes "accepted between ") time high
 line_text line.AcceptedNone = codes "accepted none" ++ newline
 line_text (line.Unchecked time) = number_line (codes "unchecked ") time
+line_text (line.UncheckedBetween time high) = figures_line (codes "unchecked between ") time high
 line_text line.UncheckedNone = codes "unchecked none" ++ newline
 line_text (line.Default rise fall) = default_line rise fall
 line_text (line.OutputNumbers numbers) = output_line numbers

@@ -21,13 +21,14 @@ use Rattle.td_lines.specs.declared.line.Part.{Part}
 use Rattle.td_lines.specs.declared.line.Found.{Found}
 use Rattle.td_lines.specs.declared.line.Found.TheVariants as found
 use Rattle.td_lines.specs.declared.line.Changes.{Changes}
+use Rattle.td_lines.specs.declared.line.Requirement.{Requirement}
 use Rattle.td_lines.specs.declared.line.Row.{Row}
 use Rattle.td_lines.specs.declared.line.Hazard.{Hazard}
 use Rattle.td_lines.specs.declared.line.Hazard.TheVariants as hazard
 use Rattle.td_lines.specs.declared.line.HazardRow.{HazardRow}
 use Rattle.td_lines.specs.declared.line.Line.{Line}
 use Rattle.td_lines.specs.declared.line.Line.TheVariants as line
-use Rattle.td_lines.specs.Texts.{bit, bits, late, figure_key, level_text, kind_text, newline, standing_text}
+use Rattle.td_lines.specs.Texts.{bit, bits, late, figure_key, level_text, kind_text, newline, slack_text, standing_text}
 
 -- these tokens were added, and what stood before them stays
 pub record Adds (old new : Written) (tokens : List Token) : Type 0 where
@@ -53,6 +54,7 @@ abbrev pub cause_text : Cause → List ℕ
 cause_text cause.Budget = codes "budget"
 cause_text cause.Memory = codes "memory"
 cause_text cause.Time = codes "time"
+cause_text cause.Stop = codes "stop"
 cause_text cause.Required = codes "required"
 
 -- a required moment, and whether it is met
@@ -96,15 +98,41 @@ column_value (found.Between low high) = numbers_of low high
 column_value (found.AtMost high) = none_to high
 column_value found.NoPair = string (codes "none")
 
-abbrev pub changes_value : Option Changes → Items
-changes_value None = no_items
-changes_value (Some changes) =
-    item (string (codes "rise")) (item (column_value changes.rise) (item (string (codes "fall")) (item (column_value changes.fall)
-    (item (string (codes "glitch")) (item (column_value changes.glitch) no_items)))))
+-- what is found by the levels, and the items after it
+abbrev pub glitch_value : Changes → Items → Items
+glitch_value changes others = item (string (codes "glitch")) (item (column_value changes.glitch) others)
 
--- the bound by edges of a row, and what is found by the levels
+abbrev pub fall_value : Changes → Items → Items
+fall_value changes others = item (string (codes "fall")) (item (column_value changes.fall) (glitch_value changes others))
+
+-- the same, where that is asked for
+abbrev pub changes_value : Option Changes → Items → Items
+changes_value None others = others
+changes_value (Some changes) others = item (string (codes "rise")) (item (column_value changes.rise) (fall_value changes others))
+
+-- a required moment less a figure
+abbrev pub slack_value : ℕ → ℕ → Json
+slack_value moment figure = number (slack_text moment figure)
+
+-- that of the figure; of two figures both, the lower slack first; null in place of that of a figure
+-- that isn't known, and a word where there is no pair
+abbrev pub slacks_value : ℕ → Found → Json
+slacks_value moment (found.Exact time) = slack_value moment time
+slacks_value moment (found.Between low high) = array (item (slack_value moment high) (item (slack_value moment low) no_items))
+slacks_value moment (found.AtMost high) = array (item (slack_value moment high) (item null no_items))
+slacks_value moment found.NoPair = string (codes "none")
+
+-- how a required moment stands, and its slack, where one is required
+abbrev pub requirement_value : Option Requirement → Found → Items
+requirement_value None found = no_items
+requirement_value (Some required) found =
+    item (string (codes "required")) (item (string (standing_text required.standing)) (item (string (codes "slack"))
+    (item (slacks_value required.moment found) no_items)))
+
+-- the bound by edges of a row, what is found by the levels, and how a required moment stands
 abbrev pub edges_value : Row → Items
-edges_value row = item (string (codes "edges")) (item (moment_of row.edges) (changes_value row.changes))
+edges_value row =
+    item (string (codes "edges")) (item (moment_of row.edges) (changes_value row.changes (requirement_value row.required row.found)))
 
 abbrev pub found_value : Found → Row → Items
 found_value (found.Exact time) row = item (string (codes "exact")) (item (number (decimal time)) (edges_value row))
@@ -182,6 +210,7 @@ key_of (line.Accepted time) = codes "accepted"
 key_of (line.AcceptedBetween time high) = codes "accepted"
 key_of line.AcceptedNone = codes "accepted"
 key_of (line.Unchecked time) = codes "unchecked"
+key_of (line.UncheckedBetween time high) = codes "unchecked"
 key_of line.UncheckedNone = codes "unchecked"
 key_of (line.Default rise fall) = codes "default"
 key_of (line.OutputNumbers numbers) = codes "output"
@@ -225,6 +254,7 @@ value_of (line.Accepted time) = number (decimal time)
 value_of (line.AcceptedBetween time high) = numbers_of time high
 value_of line.AcceptedNone = string (codes "none")
 value_of (line.Unchecked time) = number (decimal time)
+value_of (line.UncheckedBetween time high) = numbers_of time high
 value_of line.UncheckedNone = string (codes "none")
 value_of (line.Default rise fall) = string (delays_text rise fall)
 value_of (line.OutputNumbers numbers) = output_value numbers

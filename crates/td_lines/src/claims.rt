@@ -31,23 +31,24 @@ pub(crate) fn default(
 }
 
 /// Numbers in an array of their own.
-fn row(writer: &mut Writer, numbers: &[u64]) -> Result<(), AllocError>
+fn row(alloc: Global, writer: &mut Writer, numbers: &[u64]) -> Result<(), AllocError>
     ensures { OnOk result (Adds writer.old writer.new (json_tokens (output_value (Some numbers.now)))) }
 {
     writer.begin_array()?;
-    moments_value(writer, numbers)?;
+    moments_value(alloc, writer, numbers)?;
     writer.end_array()
 }
 
-fn numbered(writer: &mut Writer, numbers: &Moments) -> Result<(), AllocError>
+fn numbered(alloc: Global, writer: &mut Writer, numbers: &Moments) -> Result<(), AllocError>
     ensures { OnOk result (Adds writer.old writer.new (member_tokens (codes "output") (output_value (Some numbers.now)))) }
 {
     writer.key("output")?;
-    row(writer, numbers.all())
+    row(alloc, writer, numbers.all())
 }
 
 /// The numbers of outputs, or that all are meant.
 pub(crate) fn output_numbers(
+    alloc: Global,
     writer: &mut Writer,
     numbers: &Option<Moments>,
 ) -> Result<(), AllocError>
@@ -55,7 +56,7 @@ pub(crate) fn output_numbers(
 {
     match numbers {
         None => output(writer, "all"),
-        Some(numbers) => numbered(writer, numbers),
+        Some(numbers) => numbered(alloc, writer, numbers),
     }
 }
 

@@ -1,11 +1,11 @@
 //! Rows of hazards, as text and as JSON.
 
 ghost use Rattle.std.specs.Prelude.{◌≡◌, ◌++◌, ◌∷◌, [], codes, OnOk};
-ghost use Rattle.json.specs.Json.{array, string, item, no_items};
-ghost use Rattle.json.specs.Tree.{json_tokens, items_tokens};
+ghost use Rattle.json.specs.Json.{string, item, no_items};
+ghost use Rattle.json.specs.Tree.{items_tokens};
 ghost use Rattle.td_lines.specs.declared.line.Hazard.TheVariants as HazardAs;
 ghost use Rattle.td_lines.specs.Texts.{bit, hazard_text, hazard_line};
-ghost use Rattle.td_lines.specs.Values.{Adds, rows_tokens, items_by, member_tokens, hazard_value, hazard_row_value};
+ghost use Rattle.td_lines.specs.Values.{Adds, hazard_value, hazard_row_value};
 
 use crate::line::{Hazard, HazardRow};
 use crate::members::{Valued, characters as characters_of};
@@ -88,37 +88,13 @@ fn hazard_of(alloc: Global, writer: &mut Writer, hazard: &Hazard) -> Result<(), 
     }
 }
 
-fn row(alloc: Global, writer: &mut Writer, row: &HazardRow) -> Result<(), AllocError>
-    ensures { OnOk result (Adds writer.old writer.new (json_tokens (hazard_row_value row.now))) }
-{
-    writer.begin_array()?;
-    writer.string(row.output.text())?;
-    writer.string(digit(row.level))?;
-    hazard_of(alloc, writer, &row.hazard)
-}
+impl Valued for HazardRow {
+    ghost value = { hazard_row_value };
 
-fn rows(alloc: Global, writer: &mut Writer, all: &[HazardRow]) -> Result<(), AllocError>
-    ensures { OnOk result (Adds writer.old writer.new (rows_tokens hazard_row_value all.now)) }
-{
-    for one in all {
-        row(alloc, writer, one)?;
+    fn value(&self, alloc: Global, writer: &mut Writer) -> Result<(), AllocError> {
+        writer.begin_array()?;
+        writer.string(self.output.text())?;
+        writer.string(digit(self.level))?;
+        hazard_of(alloc, writer, &self.hazard)
     }
-    Ok(())
-}
-
-/// The rows, and the end of their array.
-fn rows_ended(alloc: Global, writer: &mut Writer, all: &[HazardRow]) -> Result<(), AllocError>
-    ensures { OnOk result (Adds writer.old writer.new (items_tokens (items_by hazard_row_value all.now))) }
-{
-    rows(alloc, writer, all)?;
-    writer.end_array()
-}
-
-/// A member with an array of the rows.
-pub(crate) fn list(alloc: Global, writer: &mut Writer, all: &[HazardRow]) -> Result<(), AllocError>
-    ensures { OnOk result (Adds writer.old writer.new (member_tokens (codes "hazard") (array (items_by hazard_row_value all.now)))) }
-{
-    writer.key("hazard")?;
-    writer.begin_array()?;
-    rows_ended(alloc, writer, all)
 }

@@ -14,14 +14,15 @@ mod members;
 mod moments;
 mod report;
 mod rows;
+mod slacks;
 mod text;
 mod texts;
 mod vector;
 
 pub use label::Label;
 pub use line::{
-    Cause, Change, Changes, Driver, Figure, Found, Hazard, HazardRow, Last, Line, Part, Place, Row,
-    Span, Standing,
+    Cause, Change, Changes, Driver, Figure, Found, Hazard, HazardRow, Last, Line, Part, Place,
+    Requirement, Row, Span, Standing,
 };
 pub use members::print_json;
 pub use moments::Moments;

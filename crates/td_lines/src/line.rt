@@ -12,6 +12,8 @@ pub enum Cause {
     Budget,
     Memory,
     Time,
+    /// Somebody asked for the search's end.
+    Stop,
     /// What was asked of a required moment is answered.
     Required,
 }
@@ -100,14 +102,22 @@ pub struct Changes {
     pub glitch: Found,
 }
 
-/// What is found of an output alone: its worst delay, its bound by edges, and its changes, where
-/// they are asked for.
+/// A required moment of an output, and whether the output settles by it.
+#[derive(Clone, Copy, Debug, Drop)]
+pub struct Requirement {
+    pub moment: u64,
+    pub standing: Standing,
+}
+
+/// What is found of an output alone: its worst delay, its bound by edges, and its changes and how a
+/// required moment stands, where these are asked for.
 #[derive(Debug, Drop)]
 pub struct Row {
     pub output: Label,
     pub found: Found,
     pub edges: Option<u64>,
     pub changes: Option<Changes>,
+    pub required: Option<Requirement>,
 }
 
 /// Whether an output can change late where it settles at one level: a pair that shows it; or it
@@ -200,6 +210,11 @@ pub enum Line {
     AcceptedNone,
     /// The time of certificates that are joined and weren't checked.
     Unchecked(u64),
+    /// Where they leave the worst delay open, as where one that is accepted does.
+    UncheckedBetween {
+        time: u64,
+        high: u64,
+    },
     /// Where they claim that no pair is admitted.
     UncheckedNone,
     /// The delays of gates that state none, in steps, of a certificate.

@@ -7,11 +7,11 @@ ghost use Rattle.td_nets.specs.Scales.{scale_text};
 ghost use Rattle.td_lines.specs.Texts.{bit, bits, level_text, kind_text};
 ghost use Rattle.td_lines.specs.Values.{Adds, items_by, rows_tokens, count_value, unit_text, cause_text, required_value, moment_of, numbers_of, span_value, place_value, last_value, driven_value, change_value, part_value, member_tokens, line_tokens, members_of, report_json, named, at_value, none_to};
 
+use crate::claims;
 use crate::label::Label;
 use crate::line::{Cause, Change, Driver, Last, Line, Part, Place, Span, Standing};
 use crate::moments::Moments;
 use crate::vector::Vector;
-use crate::{claims, hazards};
 use json::Writer;
 use std::alloc::{AllocError, Global};
 use td_gates::{Kind, Level};
@@ -23,42 +23,51 @@ pub(crate) trait Valued {
     ghost value: { Self → Json };
 
     /// Writes it.
-    fn value(&self, writer: &mut Writer) -> Result<(), AllocError>
+    fn value(&self, alloc: Global, writer: &mut Writer) -> Result<(), AllocError>
         ensures { OnOk result (Adds writer.old writer.new (json_tokens (Self.value self.now))) };
 }
 
 /// The values of what follows one another.
-fn values<V: Valued>(writer: &mut Writer, items: &[V]) -> Result<(), AllocError>
+fn values<V: Valued>(alloc: Global, writer: &mut Writer, items: &[V]) -> Result<(), AllocError>
     ensures { OnOk result (Adds writer.old writer.new (rows_tokens V.value items.now)) }
 {
     for item in items {
-        item.value(writer)?;
+        item.value(alloc, writer)?;
     }
     Ok(())
 }
 
 /// The values, and the end of their array.
-fn values_ended<V: Valued>(writer: &mut Writer, items: &[V]) -> Result<(), AllocError>
+fn values_ended<V: Valued>(
+    alloc: Global,
+    writer: &mut Writer,
+    items: &[V],
+) -> Result<(), AllocError>
     ensures { OnOk result (Adds writer.old writer.new (items_tokens (items_by V.value items.now))) }
 {
-    values(writer, items)?;
+    values(alloc, writer, items)?;
     writer.end_array()
 }
 
 /// An array of the values.
-fn list<V: Valued>(writer: &mut Writer, items: &[V]) -> Result<(), AllocError>
+fn list<V: Valued>(alloc: Global, writer: &mut Writer, items: &[V]) -> Result<(), AllocError>
     ensures { OnOk result (Adds writer.old writer.new (json_tokens (array (items_by V.value items.now)))) }
 {
     writer.begin_array()?;
-    values_ended(writer, items)
+    values_ended(alloc, writer, items)
 }
 
 /// A member with an array of the values.
-fn lists<V: Valued>(writer: &mut Writer, key: &str, items: &[V]) -> Result<(), AllocError>
+fn lists<V: Valued>(
+    alloc: Global,
+    writer: &mut Writer,
+    key: &str,
+    items: &[V],
+) -> Result<(), AllocError>
     ensures { OnOk result (Adds writer.old writer.new (member_tokens key.now (array (items_by V.value items.now)))) }
 {
     writer.key(key)?;
-    list(writer, items)
+    list(alloc, writer, items)
 }
 
 /// Whether the program is proved: `build/unproved.py` compiles one that says that it isn't.
@@ -103,12 +112,12 @@ fn member(alloc: Global, writer: &mut Writer, line: &Line) -> Result<(), AllocEr
         Line::Defaulted(count) => count_of(writer, "defaulted", *count),
         Line::Depth(count) => count_of(writer, "depth", *count),
         Line::Delay(delays) => delay(writer, *delays),
-        Line::InputPlaces(rows) => lists(writer, "input", rows),
-        Line::OutputPlaces(rows) => lists(writer, "output", rows),
-        Line::Lasts(rows) => lists(writer, "last", rows),
+        Line::InputPlaces(rows) => lists(alloc, writer, "input", rows),
+        Line::OutputPlaces(rows) => lists(alloc, writer, "output", rows),
+        Line::Lasts(rows) => lists(alloc, writer, "last", rows),
         Line::Time(time) => count_of(writer, "time", *time),
         Line::Output(name) => output(writer, name.text()),
-        Line::Changes(rows) => lists(writer, "change", rows),
+        Line::Changes(rows) => lists(alloc, writer, "change", rows),
         Line::Bound(figure, moment) => bound(writer, figure.key(), *moment),
         Line::Exact(time) => count_of(writer, "exact", *time),
         Line::Between { low, high } => two(writer, "between", *low, *high),
@@ -119,21 +128,22 @@ fn member(alloc: Global, writer: &mut Writer, line: &Line) -> Result<(), AllocEr
         Line::To(bits) => vector(alloc, writer, "to", bits),
         Line::Nodes(count) => count_of(writer, "nodes", *count),
         Line::Required(moment, standing) => required(writer, *moment, *standing),
-        Line::Each(rows) => lists(writer, "each", rows),
-        Line::Hazards(rows) => hazards::list(alloc, writer, rows),
-        Line::Parts(rows) => lists(writer, "parts", rows),
+        Line::Each(rows) => lists(alloc, writer, "each", rows),
+        Line::Hazards(rows) => lists(alloc, writer, "hazard", rows),
+        Line::Parts(rows) => lists(alloc, writer, "parts", rows),
         Line::Accepted(time) => count_of(writer, "accepted", *time),
         Line::AcceptedBetween { time, high } => two(writer, "accepted", *time, *high),
         Line::AcceptedNone => word(writer, "accepted", "none"),
         Line::Unchecked(time) => count_of(writer, "unchecked", *time),
+        Line::UncheckedBetween { time, high } => two(writer, "unchecked", *time, *high),
         Line::UncheckedNone => word(writer, "unchecked", "none"),
         Line::Default { rise, fall } => claims::default(alloc, writer, *rise, *fall),
-        Line::OutputNumbers(numbers) => claims::output_numbers(writer, numbers),
+        Line::OutputNumbers(numbers) => claims::output_numbers(alloc, writer, numbers),
         Line::First(pins) => word(writer, "first", pins.text()),
         Line::Second(pins) => word(writer, "second", pins.text()),
         Line::Hold(mask) => word(writer, "hold", mask.text()),
         Line::Flips(count) => count_of(writer, "flips", *count),
-        Line::At(moments) => at(writer, moments),
+        Line::At(moments) => at(alloc, writer, moments),
         Line::Keep(conditions) => word(writer, "keep", conditions.text()),
         Line::Refused { number, name, line } => claims::refused(writer, *number, name, *line),
     }
@@ -262,6 +272,7 @@ fn cause_word(why: Cause) -> &'static str
         Cause::Budget => "budget",
         Cause::Memory => "memory",
         Cause::Time => "time",
+        Cause::Stop => "stop",
         Cause::Required => "required",
     }
 }
@@ -330,7 +341,7 @@ pub(crate) fn output(writer: &mut Writer, name: &str) -> Result<(), AllocError>
 impl Valued for Place {
     ghost value = { place_value };
 
-    fn value(&self, writer: &mut Writer) -> Result<(), AllocError> {
+    fn value(&self, _alloc: Global, writer: &mut Writer) -> Result<(), AllocError> {
         writer.begin_array()?;
         writer.u64(self.place)?;
         writer.string(self.net.text())?;
@@ -341,7 +352,7 @@ impl Valued for Place {
 impl Valued for Last {
     ghost value = { last_value };
 
-    fn value(&self, writer: &mut Writer) -> Result<(), AllocError> {
+    fn value(&self, _alloc: Global, writer: &mut Writer) -> Result<(), AllocError> {
         writer.begin_array()?;
         writer.string(self.output.text())?;
         moment(writer, self.moment)?;
@@ -352,7 +363,7 @@ impl Valued for Last {
 impl Valued for u64 {
     ghost value = { count_value };
 
-    fn value(&self, writer: &mut Writer) -> Result<(), AllocError> {
+    fn value(&self, _alloc: Global, writer: &mut Writer) -> Result<(), AllocError> {
         writer.u64(*self)
     }
 }
@@ -360,7 +371,7 @@ impl Valued for u64 {
 impl Valued for Label {
     ghost value = { string };
 
-    fn value(&self, writer: &mut Writer) -> Result<(), AllocError> {
+    fn value(&self, _alloc: Global, writer: &mut Writer) -> Result<(), AllocError> {
         writer.string(self.text())
     }
 }
@@ -368,8 +379,8 @@ impl Valued for Label {
 impl Valued for Part {
     ghost value = { part_value };
 
-    fn value(&self, writer: &mut Writer) -> Result<(), AllocError> {
-        list(writer, &self.words)
+    fn value(&self, alloc: Global, writer: &mut Writer) -> Result<(), AllocError> {
+        list(alloc, writer, &self.words)
     }
 }
 
@@ -426,7 +437,7 @@ fn by_gate(writer: &mut Writer, by: Driver) -> Result<(), AllocError>
 impl Valued for Change {
     ghost value = { change_value };
 
-    fn value(&self, writer: &mut Writer) -> Result<(), AllocError> {
+    fn value(&self, _alloc: Global, writer: &mut Writer) -> Result<(), AllocError> {
         writer.begin_array()?;
         writer.u64(self.moment)?;
         writer.string(self.net.text())?;
@@ -437,18 +448,22 @@ impl Valued for Change {
 }
 
 /// The moments, or null where there are no inputs.
-pub(crate) fn moments_value(writer: &mut Writer, moments: &[u64]) -> Result<(), AllocError>
+pub(crate) fn moments_value(
+    alloc: Global,
+    writer: &mut Writer,
+    moments: &[u64],
+) -> Result<(), AllocError>
     ensures { OnOk result (Adds writer.old writer.new (json_tokens (at_value moments.now))) }
 {
     if moments.is_empty() {
         return writer.null();
     }
-    list(writer, moments)
+    list(alloc, writer, moments)
 }
 
-fn at(writer: &mut Writer, moments: &Moments) -> Result<(), AllocError>
+fn at(alloc: Global, writer: &mut Writer, moments: &Moments) -> Result<(), AllocError>
     ensures { OnOk result (Adds writer.old writer.new (member_tokens (codes "at") (at_value moments.now))) }
 {
     writer.key("at")?;
-    moments_value(writer, moments.all())
+    moments_value(alloc, writer, moments.all())
 }

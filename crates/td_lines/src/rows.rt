@@ -3,15 +3,16 @@
 ghost use Rattle.std.specs.Prelude.{◌≡◌, ◌++◌, codes, Some, None, OnOk};
 ghost use Rattle.json.specs.Tree.{json_tokens, items_tokens};
 ghost use Rattle.td_lines.specs.declared.line.Found.TheVariants as FoundAs;
-ghost use Rattle.td_lines.specs.Texts.{found_text, edges_text, late, column_text, changes_text, row_line};
-ghost use Rattle.td_lines.specs.Values.{Adds, column_value, changes_value, edges_value, found_value, row_value};
+ghost use Rattle.td_lines.specs.Texts.{found_text, edges_text, late, column_text, changes_text, requirement_text, row_line};
+ghost use Rattle.td_lines.specs.Values.{Adds, column_value, glitch_value, fall_value, changes_value, edges_value, found_value, requirement_value, row_value};
 
 use crate::line::{Changes, Found, Row};
 use crate::members::{Valued, below, moment as moment_value, numbers};
+use crate::slacks::{requirement, requirement_of};
 use crate::text::{Printed, bound_moment, moment};
 use crate::texts::Text;
 use json::Writer;
-use std::alloc::AllocError;
+use std::alloc::{AllocError, Global};
 
 /// A moment after 0, if this is one.
 fn late(time: u64) -> Option<u64>
@@ -93,6 +94,7 @@ impl Printed for Row {
         found(out, self.found)?;
         edges(out, self.edges)?;
         changes(out, &self.changes)?;
+        requirement(out, self.required, self.found)?;
         out.push(b"\n")
     }
 }
@@ -110,88 +112,124 @@ fn column_of(writer: &mut Writer, found: Found) -> Result<(), AllocError>
     }
 }
 
-fn changed_of(writer: &mut Writer, changes: &Changes) -> Result<(), AllocError>
-    ensures { OnOk result (Adds writer.old writer.new (items_tokens (changes_value (Some changes.now)))) }
+/// The column of glitches, and what follows it.
+fn glitch_of(
+    alloc: Global,
+    writer: &mut Writer,
+    changes: &Changes,
+    row: &Row,
+) -> Result<(), AllocError>
+    ensures { OnOk result (Adds writer.old writer.new (items_tokens (glitch_value changes.now (requirement_value row.now.required row.now.found)))) }
+{
+    writer.string("glitch")?;
+    column_of(writer, changes.glitch)?;
+    requirement_of(alloc, writer, row.required, row.found)
+}
+
+/// The column of falls, and what follows it.
+fn fall_of(
+    alloc: Global,
+    writer: &mut Writer,
+    changes: &Changes,
+    row: &Row,
+) -> Result<(), AllocError>
+    ensures { OnOk result (Adds writer.old writer.new (items_tokens (fall_value changes.now (requirement_value row.now.required row.now.found)))) }
+{
+    writer.string("fall")?;
+    column_of(writer, changes.fall)?;
+    glitch_of(alloc, writer, changes, row)
+}
+
+/// All columns of changes, and what follows them.
+fn changed_of(
+    alloc: Global,
+    writer: &mut Writer,
+    changes: &Changes,
+    row: &Row,
+) -> Result<(), AllocError>
+    ensures { OnOk result (Adds writer.old writer.new (items_tokens (changes_value (Some changes.now) (requirement_value row.now.required row.now.found)))) }
 {
     writer.string("rise")?;
     column_of(writer, changes.rise)?;
-    writer.string("fall")?;
-    column_of(writer, changes.fall)?;
-    writer.string("glitch")?;
-    column_of(writer, changes.glitch)?;
-    writer.end_array()
+    fall_of(alloc, writer, changes, row)
 }
 
-/// What is found by the levels, where that is asked for, and the end of the array.
-fn changes_of(writer: &mut Writer, changes: &Option<Changes>) -> Result<(), AllocError>
-    ensures { OnOk result (Adds writer.old writer.new (items_tokens (changes_value changes.now))) }
+/// What is found by the levels, where that is asked for, and what follows it.
+fn changes_of(alloc: Global, writer: &mut Writer, row: &Row) -> Result<(), AllocError>
+    ensures { OnOk result (Adds writer.old writer.new (items_tokens (changes_value row.now.changes (requirement_value row.now.required row.now.found)))) }
 {
-    match changes {
-        None => writer.end_array(),
-        Some(changes) => changed_of(writer, changes),
+    match &row.changes {
+        None => requirement_of(alloc, writer, row.required, row.found),
+        Some(changes) => changed_of(alloc, writer, changes, row),
     }
 }
 
 /// The bound by edges, and what follows it.
-fn edges_of(writer: &mut Writer, row: &Row) -> Result<(), AllocError>
+fn edges_of(alloc: Global, writer: &mut Writer, row: &Row) -> Result<(), AllocError>
     ensures { OnOk result (Adds writer.old writer.new (items_tokens (edges_value row.now))) }
 {
     writer.string("edges")?;
     moment_value(writer, row.edges)?;
-    changes_of(writer, &row.changes)
+    changes_of(alloc, writer, row)
 }
 
-fn exact(writer: &mut Writer, time: u64, row: &Row) -> Result<(), AllocError>
+fn exact(alloc: Global, writer: &mut Writer, time: u64, row: &Row) -> Result<(), AllocError>
     ensures { OnOk result (Adds writer.old writer.new (items_tokens (found_value (FoundAs.Exact time) row.now))) }
 {
     writer.string("exact")?;
     writer.u64(time)?;
-    edges_of(writer, row)
+    edges_of(alloc, writer, row)
 }
 
-fn within(writer: &mut Writer, low: u64, high: u64, row: &Row) -> Result<(), AllocError>
+fn within(
+    alloc: Global,
+    writer: &mut Writer,
+    low: u64,
+    high: u64,
+    row: &Row,
+) -> Result<(), AllocError>
     ensures { OnOk result (Adds writer.old writer.new (items_tokens (found_value (FoundAs.Between low high) row.now))) }
 {
     writer.string("between")?;
     writer.u64(low)?;
     writer.u64(high)?;
-    edges_of(writer, row)
+    edges_of(alloc, writer, row)
 }
 
-fn up_to(writer: &mut Writer, high: u64, row: &Row) -> Result<(), AllocError>
+fn up_to(alloc: Global, writer: &mut Writer, high: u64, row: &Row) -> Result<(), AllocError>
     ensures { OnOk result (Adds writer.old writer.new (items_tokens (found_value (FoundAs.AtMost high) row.now))) }
 {
     writer.string("between")?;
     writer.null()?;
     writer.u64(high)?;
-    edges_of(writer, row)
+    edges_of(alloc, writer, row)
 }
 
-fn without_pair(writer: &mut Writer, row: &Row) -> Result<(), AllocError>
+fn without_pair(alloc: Global, writer: &mut Writer, row: &Row) -> Result<(), AllocError>
     ensures { OnOk result (Adds writer.old writer.new (items_tokens (found_value FoundAs.NoPair row.now))) }
 {
     writer.string("none")?;
-    edges_of(writer, row)
+    edges_of(alloc, writer, row)
 }
 
 /// What is found of an output, and the end of the array.
-fn found_of(writer: &mut Writer, row: &Row) -> Result<(), AllocError>
+fn found_of(alloc: Global, writer: &mut Writer, row: &Row) -> Result<(), AllocError>
     ensures { OnOk result (Adds writer.old writer.new (items_tokens (found_value row.now.found row.now))) }
 {
     match row.found {
-        Found::Exact(time) => exact(writer, time, row),
-        Found::Between { low, high } => within(writer, low, high, row),
-        Found::AtMost(high) => up_to(writer, high, row),
-        Found::NoPair => without_pair(writer, row),
+        Found::Exact(time) => exact(alloc, writer, time, row),
+        Found::Between { low, high } => within(alloc, writer, low, high, row),
+        Found::AtMost(high) => up_to(alloc, writer, high, row),
+        Found::NoPair => without_pair(alloc, writer, row),
     }
 }
 
 impl Valued for Row {
     ghost value = { row_value };
 
-    fn value(&self, writer: &mut Writer) -> Result<(), AllocError> {
+    fn value(&self, alloc: Global, writer: &mut Writer) -> Result<(), AllocError> {
         writer.begin_array()?;
         writer.string(self.output.text())?;
-        found_of(writer, self)
+        found_of(alloc, writer, self)
     }
 }

@@ -2,7 +2,7 @@
 
 ghost use Rattle.std.specs.Prelude.{◌≡◌, ◌++◌, List, ℕ, codes, Some, OnOk};
 ghost use Rattle.std.specs.List.{flat_map};
-ghost use Rattle.td_lines.specs.Texts.{unit_line, number_line, delay_line, place_line, place_lines, moment_text, last_line, bound_text, bound_line, figure_key, between_line, cause_line, standing_text, required_line, bit, bits, vector_line, line_text, report_text, word_line, spaced, spaced_moment, at_line, place_text, refused_line, accepted_line, default_line, output_line, level_text, kind_text, by_text, levels_text, changed_text, change_line, words_text, spaced_word, part_line};
+ghost use Rattle.td_lines.specs.Texts.{unit_line, number_line, delay_line, place_line, place_lines, moment_text, last_line, bound_text, bound_line, figure_key, figures_line, cause_line, standing_text, required_line, bit, bits, vector_line, line_text, report_text, word_line, spaced, spaced_moment, at_line, place_text, refused_line, default_line, output_line, level_text, kind_text, by_text, levels_text, changed_text, change_line, words_text, spaced_word, part_line};
 
 use crate::label::Label;
 use crate::line::{Cause, Change, Driver, Figure, Last, Line, Part, Place, Span, Standing};
@@ -61,7 +61,7 @@ impl Printed for Line {
             Line::Changes(rows) => all(out, rows),
             Line::Bound(figure, moment) => bound(out, *figure, *moment),
             Line::Exact(time) => number(out, b"exact ", *time),
-            Line::Between { low, high } => between(out, *low, *high),
+            Line::Between { low, high } => figures(out, b"between ", *low, *high),
             Line::AtMost(high) => number(out, b"between none ", *high),
             Line::NoPair => out.push(b"none\n"),
             Line::Cause(why) => cause(out, *why),
@@ -73,9 +73,20 @@ impl Printed for Line {
             Line::Hazards(rows) => all(out, rows),
             Line::Parts(rows) => all(out, rows),
             Line::Accepted(time) => number(out, b"accepted ", *time),
-            Line::AcceptedBetween { time, high } => accepted_between(out, *time, *high),
+            Line::AcceptedBetween { time, high } => figures(
+                out,
+                b"accepted between ",
+                *time,
+                *high,
+            ),
             Line::AcceptedNone => out.push(b"accepted none\n"),
             Line::Unchecked(time) => number(out, b"unchecked ", *time),
+            Line::UncheckedBetween { time, high } => figures(
+                out,
+                b"unchecked between ",
+                *time,
+                *high,
+            ),
             Line::UncheckedNone => out.push(b"unchecked none\n"),
             Line::Default { rise, fall } => default(out, *rise, *fall),
             Line::OutputNumbers(numbers) => output_numbers(out, numbers),
@@ -271,10 +282,10 @@ impl Figure {
     }
 }
 
-fn between(out: &mut Text, low: u64, high: u64) -> Result<(), AllocError>
-    ensures { OnOk result (out.new ≡ out.old ++ between_line low high) }
+fn figures(out: &mut Text, front: &[u8], low: u64, high: u64) -> Result<(), AllocError>
+    ensures { OnOk result (out.new ≡ out.old ++ figures_line front.now low high) }
 {
-    out.number_behind(b"between ", low)?;
+    out.number_behind(front, low)?;
     out.number_between(b" ", high, b"\n")
 }
 
@@ -285,6 +296,7 @@ fn cause(out: &mut Text, why: Cause) -> Result<(), AllocError>
         Cause::Budget => out.push(b"cause budget\n"),
         Cause::Memory => out.push(b"cause memory\n"),
         Cause::Time => out.push(b"cause time\n"),
+        Cause::Stop => out.push(b"cause stop\n"),
         Cause::Required => out.push(b"cause required\n"),
     }
 }
@@ -384,13 +396,6 @@ fn spaced(out: &mut Text, moments: &[u64]) -> Result<(), AllocError>
         return out.push(b" none");
     }
     all(out, moments)
-}
-
-fn accepted_between(out: &mut Text, time: u64, high: u64) -> Result<(), AllocError>
-    ensures { OnOk result (out.new ≡ out.old ++ accepted_line time high) }
-{
-    out.number_behind(b"accepted between ", time)?;
-    out.number_between(b" ", high, b"\n")
 }
 
 fn default(out: &mut Text, rise: u64, fall: u64) -> Result<(), AllocError>

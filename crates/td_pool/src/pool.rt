@@ -7,6 +7,7 @@ ghost use Rattle.td_search.specs.Answers.{IsAnswer, IsSearchFault, TimeNeedsStop
 ghost use Rattle.td_search.specs.Best.{IsBest};
 ghost use Rattle.td_search.specs.CutShort.{greatest_of};
 ghost use Rattle.td_search.specs.Findings.{IsTrueEvidence};
+ghost use Rattle.td_search.specs.Opened.{ShowsAnswer};
 ghost use Rattle.td_search.specs.Problems.{problem_of, problem};
 ghost use Rattle.td_search.specs.Roots.{IsRoot};
 ghost use Rattle.td_search.specs.Shared.{IsShared};
@@ -37,8 +38,8 @@ use std::thread::{Promise, PromisedHandle, Threads};
 use td_circuit::Circuit;
 use td_domain::Admit;
 use td_search::{
-    Answer, Best, Evidence, Lead, Least, Own, Prober, Problem, Root, Rule, SearchFault, SharedWork,
-    Strategy, Task, alone_by, finish, root_of,
+    Answer, Best, Ended, Evidence, Lead, Least, Own, Prober, Problem, Root, Rule, SearchFault,
+    SharedWork, Strategy, Task, alone_shown, finish_shown, root_of,
 };
 use td_stop::Stop;
 
@@ -127,7 +128,8 @@ pub fn worst_by<P: Prober + Sync, D: Hints + Drop + Send, R: Threads + Wait + Sy
         stop: &Stop::never(),
     };
     let mut nobody = Unwatched;
-    search_by(rt, alloc, &problem, prober, decks, limits, &mut nobody)
+    let Ended { answer, .. } = search_by(rt, alloc, &problem, prober, decks, limits, &mut nobody)?;
+    Ok(answer)
 }
 
 /// Searches for the worst delay that is asked for. This thread is one of the workers. It reports
@@ -137,7 +139,8 @@ pub fn worst_by<P: Prober + Sync, D: Hints + Drop + Send, R: Threads + Wait + Sy
 /// milestones were passed meanwhile, it reports only the last. With one worker that nobody watches
 /// the answer is that of `alone_by`, which asks no prober. A thread that can't be started only
 /// lowers the number of workers. Once the stop is set, no worker begins a further node, and the
-/// answer says what is known by then.
+/// answer says what is known by then. Beside an answer that stays open a tree shows its upper
+/// figure, where there was memory for it.
 ///
 /// # Errors
 ///
@@ -149,19 +152,21 @@ pub fn search<P: Prober + Sync, W: Watch, R: Threads + Wait + Sync>(
     prober: &P,
     limits: Limits<'_>,
     watch: &mut W,
-) -> Result<Answer, SearchFault>
-    ensures answer { IfOk result (IsAnswer (problem_of problem.now) limits.entry.effort.budget) }
+) -> Result<Ended, SearchFault>
+    ensures answer { IfOk result (λ ended. IsAnswer (problem_of problem.now) limits.entry.effort.budget ended.answer) }
     // The certificate of an exact answer has a text within the limit.
-    ensures text { IfOk result (CanBeWritten (problem_of problem.now)) }
+    ensures text { IfOk result (λ ended. CanBeWritten (problem_of problem.now) ended.answer) }
+    // A certificate of both figures is accepted with the tree.
+    ensures shown { IfOk result (ShowsAnswer (problem_of problem.now)) }
     // Time is a cause only where the stop can be set.
-    ensures time { IfOk result (TimeNeedsStop limits.entry.stop.now.can_be_set) }
+    ensures time { IfOk result (λ ended. TimeNeedsStop limits.entry.stop.now.can_be_set ended.answer) }
     ensures fault { IfErr result (IsSearchFault (problem_of problem.now)) }
     // All progress that the watch got is true of what is asked.
     ensures reported { W.reported (problem_of problem.now) watch.old watch.new }
 {
     let Limits { effort, stop } = limits;
     if effort.workers == 1 && !watch.is_looking() {
-        return alone_by(alloc, problem, effort.budget, stop);
+        return alone_shown(alloc, problem, effort.budget, stop);
     }
     let decks = Deck::deal(alloc, effort.workers as usize)?;
     search_by(rt, alloc, problem, prober, decks, limits, watch)
@@ -177,10 +182,11 @@ fn search_by<P: Prober + Sync, D: Hints + Drop + Send, W: Watch, R: Threads + Wa
     decks: Vec<D>,
     limits: Limits<'_>,
     watch: &mut W,
-) -> Result<Answer, SearchFault>
-    ensures answer { IfOk result (IsAnswer (problem_of problem.now) limits.entry.effort.budget) }
-    ensures text { IfOk result (CanBeWritten (problem_of problem.now)) }
-    ensures time { IfOk result (TimeNeedsStop limits.entry.stop.now.can_be_set) }
+) -> Result<Ended, SearchFault>
+    ensures answer { IfOk result (λ ended. IsAnswer (problem_of problem.now) limits.entry.effort.budget ended.answer) }
+    ensures text { IfOk result (λ ended. CanBeWritten (problem_of problem.now) ended.answer) }
+    ensures shown { IfOk result (ShowsAnswer (problem_of problem.now)) }
+    ensures time { IfOk result (λ ended. TimeNeedsStop limits.entry.stop.now.can_be_set ended.answer) }
     ensures fault { IfErr result (IsSearchFault (problem_of problem.now)) }
     ensures reported { W.reported (problem_of problem.now) watch.old watch.new }
 {
@@ -189,7 +195,7 @@ fn search_by<P: Prober + Sync, D: Hints + Drop + Send, W: Watch, R: Threads + Wa
     }
     let work = shared_work(rt, alloc, problem, prober, decks, limits, watch)?;
     let Limits { effort, stop } = limits;
-    Ok(finish(alloc, problem, work, effort.budget, stop))
+    Ok(finish_shown(alloc, problem, work, effort.budget, stop))
 }
 
 // What the workers find by the rule of the strategy. The error is out of memory before they begin.

@@ -161,7 +161,10 @@ pub fn found_with<R: Threads + Wait + Sync + Abort>(
         effort: Effort { workers, budget },
         stop: &Stop::never(),
     };
-    as_reported(&search(rt, alloc, &problem, &Own, limits, &mut Unwatched))
+    match search(rt, alloc, &problem, &Own, limits, &mut Unwatched) {
+        Ok(ended) => as_reported(&Ok(ended.answer)),
+        Err(fault) => as_reported(&Err(fault)),
+    }
 }
 
 /// What a search of all pairs by a worker for each of these decks comes to.

@@ -6,6 +6,8 @@ mod circuits;
 #[cfg(test)]
 mod decks;
 #[cfg(test)]
+mod opened;
+#[cfg(test)]
 mod prober;
 #[cfg(test)]
 mod refusals;

@@ -90,18 +90,18 @@ fn stopped_after<P: Prober + Sync, R: Threads + Wait + Sync + Abort>(
         },
         stop,
     };
-    match search(rt, alloc, &problem, prober, limits, &mut Unwatched) {
-        Ok(
-            Answer::Between {
-                low,
-                high,
-                nodes,
-                cause: Cause::Time,
-                ..
-            },
-        ) if low <= WORST && WORST <= high => Ok(Some(nodes)),
-        Ok(_) => Ok(None),
-        Err(_) => Err(Fail::from("no answer")),
+    let Ok(ended) = search(rt, alloc, &problem, prober, limits, &mut Unwatched) else {
+        return Err(Fail::from("no answer"));
+    };
+    match ended.answer {
+        Answer::Between {
+            low,
+            high,
+            nodes,
+            cause: Cause::Time,
+            ..
+        } if low <= WORST && WORST <= high => Ok(Some(nodes)),
+        _ => Ok(None),
     }
 }
 

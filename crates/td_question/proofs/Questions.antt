@@ -16,13 +16,11 @@ use Rattle.td_inputs.specs.Labels.{Label, label_in, label_of}
 use Rattle.td_inputs.specs.Placings.{Placed}
 use Rattle.td_request.specs.declared.question.Inputs.{Inputs}
 use Rattle.td_request.specs.declared.question.Question.{Question}
-use Rattle.td_domain.specs.declared.cubes.Trit.{Trit}
-use Rattle.td_domain.proofs.Weaving.{weave-length}
 use Rattle.td_gates.specs.declared.primitives.Level.{Level}
 use Rattle.td_question.specs.declared.vector.VectorWord.{VectorWord}
 use Rattle.td_question.specs.declared.vector.VectorWord.TheVariants.{At}
 use Rattle.td_question.specs.Vectors.{level_character, SpellsVector, VectorWords, IsFirstBad, AreMomentsOf, GivesMoments}
-use Rattle.td_question.specs.Asking.{most_flips, Admits, AreAdmitted, SayTogether, IsAsked, IsCube, IsPair, Pins, ArePinned, AreSpelled, IsWordFault, IsFaultOf, IsFaultOfAny, IsFaultOfQuestion, IsKeepFault, IsQuestionFault, keep_quotes, pair_words, placed_words}
+use Rattle.td_question.specs.Asking.{most_flips, Admits, AreAdmitted, SayTogether, IsAsked, IsPair, AreSpelled, IsWordFault, IsFaultOf, IsFaultOfAny, IsFaultOfQuestion, IsKeepFault, IsQuestionFault, keep_quotes, pair_words, placed_words}
 use Rattle.td_question.specs.declared.keeping.KeepFault.{KeepFault}
 use Rattle.td_question.specs.declared.keeping.KeepFault.TheVariants as keep_fault_of
 use Rattle.td_question.specs.Keeping.{IsFirstFault}
@@ -131,15 +129,6 @@ any_fault text reading inputs words_by fault.LongKeepFile is = absurd is
 
 module _ (text : List ℕ) (reading : Reading) (inputs : Inputs) (netlist : Netlist) (words : Placed) (circuit : HasCircuit text reading netlist)
     (together : SayTogether netlist inputs words) where
-  pub is_cube : (setting : Setting) (cube : List Trit) → ArePinned netlist words setting cube → IsCube text reading inputs setting cube
-  is_cube setting cube are = record {
-    circuit = subst (λ (n : Netlist). HasCircuit text reading n) (sym are.is) circuit;
-    words = words;
-    together = subst (λ (n : Netlist). SayTogether n inputs words) (sym are.is) together;
-    moments = subst (λ (n : Netlist). AreMomentsOf (length n.inputs) words.at setting.moments) (sym are.is) are.moments;
-    pins = subst (λ (n : Netlist). Pins (length n.inputs) words cube) (sym are.is) are.pins;
-  }
-
   pub is_pair : (from to : List ℕ) (setting : Setting) (first second : List Level) → AreSpelled netlist words from to setting first second
       → IsPair text reading inputs from to setting first second
   is_pair from to setting first second are = record {
@@ -181,32 +170,9 @@ wrong_first netlist question (Ok (Ok said)) is = tt
 wrong_first netlist question (Ok (Err wrong)) is = first_wrong netlist question wrong is
 wrong_first netlist question (Err fault) is = tt
 
--- of the pins of a cube there are two for each input
-pub pins_length : (count : ℕ) (words : Placed) (cube : List Trit) → Pins count words cube → length cube ≡ 2 * count
-pins_length count words cube pins =
-    let first : length pins.firsts ≡ count = given-length _ _ _ _ _ pins.first_is in
-    let second : length pins.seconds ≡ count = given-length _ _ _ _ _ pins.second_is in
-    omega (arith, first, ap length pins.is, weave-length pins.firsts pins.seconds (first ∙ sym second))
-
--- so it is of the pins that words give a circuit
-pub cube_fits : (netlist : Netlist) (words : Placed) (setting : Setting) (cube : List Trit) → ArePinned netlist words setting cube
-    → length cube ≡ 2 * length setting.netlist.inputs
-cube_fits netlist words setting cube are =
-    pins_length (length netlist.inputs) words cube are.pins ∙ ap (λ (n : Netlist). 2 * length n.inputs) (sym are.is)
-
 -- the first bad word, for as many inputs as a netlist has
 pub bad_at : {count inputs : ℕ} (words : VectorWords) (word : VectorWord) → count ≡ inputs → IsFirstBad count words word → IsFirstBad inputs words word
 bad_at words word counts bad = subst (λ (n : ℕ). IsFirstBad n words word) counts bad
-
-pub are_pinned : (circuit timed : Numbered) (count : ℕ) (words : Placed) (cube : List Trit) (moments : List ℕ)
-    → count ≡ length circuit.netlist.inputs → Pins count words cube → AreMomentsOf count words.at moments
-    → timed ≡ with_moments circuit moments → ArePinned circuit.netlist words (setting timed) cube
-are_pinned circuit timed count words cube moments counts pins are timed_is =
-    subst (λ timed. ArePinned circuit.netlist words (setting timed) cube) (sym timed_is) (record {
-      is = refl;
-      moments = subst (λ count. AreMomentsOf count words.at moments) counts are;
-      pins = subst (λ count. Pins count words cube) counts pins;
-    })
 
 pub are_spelled : (circuit timed : Numbered) (count : ℕ) (words : Placed) (from to : List ℕ) (first second : List Level) (moments : List ℕ)
     → count ≡ length circuit.netlist.inputs → SpellsVector level_character count from first → SpellsVector level_character count to second

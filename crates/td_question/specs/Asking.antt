@@ -173,29 +173,10 @@ IsFaultOfAny text reading inputs (fault.BadKeep word) = ⊥
 IsFaultOfAny text reading inputs (fault.NoNet name) = ⊥
 IsFaultOfAny text reading inputs fault.LongKeepFile = ⊥
 
--- ---- cubes and pairs
+-- ---- pairs
 
--- the words by place give these pins for that many inputs
-pub record Pins (inputs : ℕ) (words : Placed) (cube : List Trit) : Type 0 where
-  pub firsts : List Trit
-  pub seconds : List Trit
-  pub first_is : AreTrits inputs words.first firsts
-  pub second_is : AreTrits inputs words.second seconds
-  pub is : cube ≡ weave firsts seconds
-
--- the netlist that is read of the text, which has no loop, with a moment for each input, and these
--- pins of its inputs
-pub record IsCube (text : List ℕ) (reading : Reading) (inputs : Inputs) (setting : Setting) (cube : List Trit) : Type 0 where
-  pub circuit : HasCircuit text reading setting.netlist
-  pub words : Placed
-  pub together : SayTogether setting.netlist inputs words
-  pub moments : AreMomentsOf (length setting.netlist.inputs) words.at setting.moments
-  pub pins : Pins (length setting.netlist.inputs) words cube
-
-abbrev pub cube_words : Placed → VectorWords
-cube_words words = (First, GivesTrits words.first) ∷ (Second, GivesTrits words.second) ∷ (At, GivesMoments words.at) ∷ []
-
--- and two vectors of its inputs, which these words spell
+-- the netlist that is read of the text, which has no loop, with a moment for each input, and two
+-- vectors of its inputs, which these words spell
 pub record IsPair (text : List ℕ) (reading : Reading) (inputs : Inputs) (from to : List ℕ) (setting : Setting) (first second : List Level) : Type 0 where
   pub circuit : HasCircuit text reading setting.netlist
   pub words : Placed
@@ -208,12 +189,6 @@ abbrev pub vector_words : List ℕ → List ℕ → Placed → VectorWords
 vector_words from to words = (From, SpellsLevels from) ∷ (To, SpellsLevels to) ∷ (At, GivesMoments words.at) ∷ []
 
 -- ---- what words by place say of a netlist
-
--- these pins of this netlist's inputs, which have the moments of the words
-pub record ArePinned (netlist : Netlist) (words : Placed) (setting : Setting) (cube : List Trit) : Type 0 where
-  pub is : setting.netlist ≡ netlist
-  pub moments : AreMomentsOf (length netlist.inputs) words.at setting.moments
-  pub pins : Pins (length netlist.inputs) words cube
 
 -- these vectors of this netlist's inputs, which have the moments of the words
 pub record AreSpelled (netlist : Netlist) (words : Placed) (from to : List ℕ) (setting : Setting) (first second : List Level) : Type 0 where

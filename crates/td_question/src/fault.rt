@@ -7,8 +7,9 @@ use td_inputs::{Label, WordFault};
 use td_source::SourceFault;
 
 /// Why a text and words give no question: the text's fault, what is wrong with a word about inputs
-/// by name, for inputs that are called so, a word that gives nothing for the netlist's inputs, a word
-/// or a line that is no condition, one that names no net, or a file of conditions that is too long.
+/// by name, for inputs that are called so, a word that gives nothing for the netlist's inputs, a
+/// word or a line that is no condition, one that names no net, or a file of conditions that is too
+/// long.
 #[derive(Drop)]
 pub enum QuestionFault<'a, 'w> {
     OutOfMemory,

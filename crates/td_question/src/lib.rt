@@ -6,7 +6,6 @@
 #![tactic(auto)]
 
 mod asking;
-mod cube;
 mod fault;
 mod keep_lines;
 mod keeping;
@@ -20,7 +19,6 @@ pub mod timing;
 pub mod vector;
 
 pub use asking::{Asked, question_of};
-pub use cube::{CubeAsked, cube_of};
 pub use fault::QuestionFault;
 pub use keeping::words_of;
 pub use pair::{PairAsked, pair_of};

@@ -15,8 +15,8 @@ use td_reading::Reading;
 use td_request::Inputs;
 use td_source::source_of;
 
-/// A circuit, the numbers of the outputs that are asked about, where some are, and the words by place
-/// that say of its inputs what all words say together.
+/// A circuit, the numbers of the outputs that are asked about, where some are, and the words by
+/// place that say of its inputs what all words say together.
 #[derive(Drop)]
 pub(crate) struct Placed {
     pub(crate) circuit: Circuit,

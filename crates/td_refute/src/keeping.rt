@@ -7,7 +7,7 @@ ghost use Rattle.td_refute.specs.Kept.{IsTimedAmong, IsEvidence};
 
 use crate::asking::is_asked_about;
 use crate::effort::Effort;
-use crate::refuting::{MOST_GATES, Refuted};
+use crate::refuting::Refuted;
 use crate::searching::{Findings, search};
 use std::alloc::{AllocError, Global};
 use std::thread::Threads;
@@ -52,10 +52,10 @@ impl Answered {
     }
 }
 
-/// Searches for the latest of the admitted pairs that keep conditions, and for a refutation of later
-/// ones, or of all. Nothing is found or shown where the circuit is too large, or the stop was set
-/// before. Where memory runs out once a pair is found, nothing is shown. Several workers search in
-/// threads of their own, where they can be started. The error is out of memory.
+/// Searches for the latest of the admitted pairs that keep conditions, and for a refutation of
+/// later ones, or of all. Nothing is found or shown where too many gates lead to the outputs, or
+/// the stop was set before. Where memory runs out once a pair is found, nothing is shown. Several
+/// workers search in threads of their own, where they can be started. The error is out of memory.
 ///
 /// Where the bound is the best pair's delay, that is the worst delay of these pairs.
 pub fn refute_keeping<R: Threads + Sync>(
@@ -70,9 +70,6 @@ pub fn refute_keeping<R: Threads + Sync>(
     ensures best { IfOk result (λ answered. IfSome answered.best (IsTimedAmong (setting circuit.now) (record { admit = admit.now; keep = keep.now }))) }
     ensures shown { IfOk result (λ answered. IsEvidence (setting circuit.now) (record { admit = admit.now; keep = keep.now }) answered.evidence) }
 {
-    if circuit.gates().len() > MOST_GATES {
-        return Ok(Answered::nothing(Ending::Lost));
-    }
     if effort.stop.is_set() {
         return Ok(Answered::nothing(Ending::Stop));
     }

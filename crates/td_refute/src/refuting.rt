@@ -20,9 +20,6 @@ use td_lead::Timed;
 use td_refutation::{Refusal, Step, refuted};
 use td_span_search::{Ending, PairBits};
 
-/// The most gates of a circuit that is searched.
-pub const MOST_GATES: usize = 60_000;
-
 /// A bound of the delays of the admitted pairs, and the lines that show it.
 #[derive(Drop)]
 pub struct Refuted {
@@ -51,9 +48,9 @@ impl Sought {
 
 /// Searches for pairs that are later than a known one, and for a refutation of later ones still. A
 /// later pair takes the place of the known one. Answers the least bound that was shown; none where
-/// the circuit has no gates or is too large, where the stop was set before, or where the lines are
-/// refused. Several workers search in threads of their own, where they can be started. The error is
-/// out of memory; a later pair that was found is kept then too.
+/// the circuit has no gates, or too many lead to its outputs, where the stop was set before, or
+/// where the lines are refused. Several workers search in threads of their own, where they can be
+/// started. The error is out of memory; a later pair that was found is kept then too.
 ///
 /// Where the bound is the best pair's delay, that is the worst delay.
 pub fn refute<R: Threads + Sync>(
@@ -74,12 +71,8 @@ pub fn refute<R: Threads + Sync>(
     ensures worst { IfOk result (λ sought. IfSome sought.refuted (λ refuted. refuted.bound ≤ best.new.time → IsWorst (setting circuit.now) admit.now best.new.time)) }
     ensures scratch { IsFor circuit.now scratch.new }
 {
-    let gates = circuit.gates().len();
-    if gates == 0 {
+    if circuit.gates().is_empty() {
         return Ok(Sought::nothing(Ending::Closed));
-    }
-    if gates > MOST_GATES {
-        return Ok(Sought::nothing(Ending::Lost));
     }
     if effort.stop.is_set() {
         return Ok(Sought::nothing(Ending::Stop));
@@ -95,8 +88,8 @@ pub fn refute<R: Threads + Sync>(
     Ok(Sought { refuted, ending })
 }
 
-// Measures the pair that a search found, if it did, and keeps it where it is later. The error is out
-// of memory.
+// Measures the pair that a search found, if it did, and keeps it where it is later. The error is
+// out of memory.
 fn keep_found(
     alloc: Global,
     scratch: &mut Scratch,

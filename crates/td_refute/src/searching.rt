@@ -24,6 +24,9 @@ pub struct Findings {
     pub ending: Ending,
 }
 
+/// The most gates that lead to the outputs of a circuit that is searched.
+const MOST_GATES: usize = 60_000;
+
 // How many gates the first climb simulates where a pair is enough under which an output changes at
 // all.
 const FEW_GATES: u64 = 20_000;
@@ -52,9 +55,10 @@ fn limits_of(known: u64, keeps: bool, effort: Effort<'_>) -> Limits {
     limits
 }
 
-/// Searches for admitted pairs that keep conditions and are later than a known one, by its delay. It
-/// begins with a pair of its own, whose levels its solver tries first: near a late pair later ones
-/// are rare. The error is out of memory before anything was found.
+/// Searches for admitted pairs that keep conditions and are later than a known one, by its delay.
+/// It begins with a pair of its own, whose levels its solver tries first: near a late pair later
+/// ones are rare. Where too many gates lead to the outputs, it finds nothing, and is lost. The
+/// error is out of memory before anything was found.
 pub fn search<R: Threads + Sync>(
     rt: &R,
     alloc: Global,
@@ -67,6 +71,13 @@ pub fn search<R: Threads + Sync>(
     requires { length admit.now.held ≡ length circuit.now.netlist.inputs }
 {
     let network = Network::new(alloc, circuit)?;
+    if network.cone().len() > MOST_GATES {
+        return Ok(Findings {
+            pair: None,
+            steps: Ok(Vec::new(alloc)),
+            ending: Ending::Lost,
+        });
+    }
     let mut admitted = Admitted::new(alloc, &network, admit)?;
     admitted.conditions = conditions_in(alloc, circuit, admit, keep)?;
     let times = times_in(alloc, circuit, admit)?;

@@ -167,7 +167,8 @@ fn of_workers(stop: &Stop, workers: u32) -> Effort<'_> {
     effort
 }
 
-/// Whether one worker, and two, find the worst delay of the pairs that are asked about, and show it.
+/// Whether one worker, and two, find the worst delay of the pairs that are asked about, and show
+/// it.
 fn agrees<R: Threads + Sync>(
     rt: &R,
     alloc: Global,

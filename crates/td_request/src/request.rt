@@ -42,6 +42,10 @@ pub struct Path<'a> {
 #[derive(Clone, Copy)]
 pub struct Bound<'a> {
     pub inputs: Inputs<'a>,
+    /// At how many inputs, at most, the two vectors differ.
+    pub flips: Option<u64>,
+    /// The moment by which outputs are to settle, in steps.
+    pub required: Option<u64>,
     /// Whether the bounds by edges are asked for too.
     pub edges: bool,
     /// Whether it is asked which output has the bound.
@@ -99,6 +103,8 @@ pub struct Search<'a> {
     pub question: Question<'a>,
     pub strategy: Strategy,
     pub effort: Effort,
+    /// The file whose presence ends the search.
+    pub stop: Option<&'a str>,
     /// The moment by which outputs are to settle, in steps.
     pub required: Option<u64>,
     /// Where the certificate goes: of an exact answer, and of what is required.
@@ -120,6 +126,8 @@ pub struct Parts<'a> {
     pub question: Question<'a>,
     pub strategy: Strategy,
     pub count: Count,
+    /// The moment by which outputs are to settle, in steps.
+    pub required: Option<u64>,
 }
 
 /// One certificate of those of a question's parts.
@@ -129,6 +137,8 @@ pub struct Join<'a> {
     pub parts: Files<'a>,
     /// The whole question.
     pub question: Question<'a>,
+    /// By which moment all outputs are to settle, where that is asked.
+    pub required: Option<u64>,
     /// Where its certificate goes.
     pub certificate: Option<&'a str>,
     /// Whether each part's certificate is checked.

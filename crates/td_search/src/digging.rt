@@ -18,7 +18,8 @@ use td_book::{Claim, Lease};
 use td_domain::Cube;
 
 impl Search {
-    /// Handles nodes until none is left, the budget is used up, memory runs out, or the stop is set.
+    /// Handles nodes until none is left, the budget is used up, memory runs out, or the stop is
+    /// set.
     pub fn run<R: Rule>(&mut self, task: &Task<'_, R>, scratch: &mut R::Scratch, budget: u64)
         requires search { IsUnderWay (problem_of task.now.problem.now) budget self.old }
         requires scratch { R.is_for scratch.old task.now.problem.now.circuit.now }

@@ -6,6 +6,7 @@ ghost use Rattle.std.specs.List.{All};
 ghost use Rattle.td_search.specs.Answers.{IsAnswer, TimeNeedsStop, low_of};
 ghost use Rattle.td_search.specs.Best.{IsKept};
 ghost use Rattle.td_search.specs.Findings.{IsTrueEvidence};
+ghost use Rattle.td_search.specs.Opened.{ShowsAnswer};
 ghost use Rattle.td_search.specs.Problems.{problem_of, has_bound};
 ghost use Rattle.td_search.specs.Progress.{IsUnderWay};
 ghost use Rattle.td_search.specs.Shared.{IsShared};
@@ -13,6 +14,7 @@ ghost use Rattle.td_search.specs.Written.{CanBeWritten};
 
 use crate::answers::{Answer, cause_of};
 use crate::best::Best;
+use crate::ended::Ended;
 use crate::findings::{Evidence, Trail};
 use crate::lead::Lead;
 use crate::least::Least;
@@ -58,6 +60,28 @@ pub fn finish(
     // Time is a cause only where the stop can be set.
     ensures time { TimeNeedsStop stop.now.can_be_set result }
 {
+    let Ended { answer, .. } = finish_shown(alloc, problem, work, budget, stop);
+    answer
+}
+
+/// What a shared search found that has ended, as `finish` says, and, beside an answer that stays
+/// open, a tree that shows its upper figure, where there was memory for it.
+pub fn finish_shown(
+    alloc: Global,
+    problem: &Problem<'_>,
+    work: SharedWork,
+    budget: u64,
+    stop: &Stop,
+) -> Ended
+    requires modest { budget ≤ 10000000 }
+    requires work { IsShared (problem_of problem.now) work }
+    ensures answer { IsAnswer (problem_of problem.now) budget result.answer }
+    ensures kept { work.best.time ≤ low_of result.answer }
+    ensures text { CanBeWritten (problem_of problem.now) result.answer }
+    // A certificate of both figures is accepted with the tree.
+    ensures shown { ShowsAnswer (problem_of problem.now) result }
+    ensures time { TimeNeedsStop stop.now.can_be_set result.answer }
+{
     match problem.strategy {
         Strategy::Least => {
             let rule = Least { prober: &Own };
@@ -81,14 +105,15 @@ pub fn finish(
     }
 }
 
-// As `finish`, by the rule of the strategy.
-fn finish_by<R: Rule>(task: &Task<'_, R>, work: SharedWork, budget: u64) -> Answer
+// As `finish_shown`, by the rule of the strategy.
+fn finish_by<R: Rule>(task: &Task<'_, R>, work: SharedWork, budget: u64) -> Ended
     requires modest { budget ≤ 10000000 }
     requires work { IsShared (problem_of task.now.problem.now) work }
-    ensures answer { IsAnswer (problem_of task.now.problem.now) budget result }
-    ensures kept { work.best.time ≤ low_of result }
-    ensures text { CanBeWritten (problem_of task.now.problem.now) result }
-    ensures time { TimeNeedsStop task.now.stop.now.can_be_set result }
+    ensures answer { IsAnswer (problem_of task.now.problem.now) budget result.answer }
+    ensures kept { work.best.time ≤ low_of result.answer }
+    ensures text { CanBeWritten (problem_of task.now.problem.now) result.answer }
+    ensures shown { ShowsAnswer (problem_of task.now.problem.now) result }
+    ensures time { TimeNeedsStop task.now.stop.now.can_be_set result.answer }
 {
     let SharedWork {
         partial,
@@ -97,10 +122,12 @@ fn finish_by<R: Rule>(task: &Task<'_, R>, work: SharedWork, budget: u64) -> Answ
         best,
     } = work;
     let Ok(mut scratch) = task.rule.scratch(task.alloc, task.problem) else {
-        return nothing_handled(task.problem, best, root, budget, task.stop);
+        let answer = nothing_handled(task.problem, best, root, budget, task.stop);
+        return Ended::of(answer);
     };
     let Ok(setup) = Setup::new(task.alloc, task.problem, budget) else {
-        return nothing_handled(task.problem, best, root, budget, task.stop);
+        let answer = nothing_handled(task.problem, best, root, budget, task.stop);
+        return Ended::of(answer);
     };
     let mut search = setup.begin(task.problem, best, root, budget);
     let _replayed = replay_tree(task, &mut search, &mut scratch, partial, evidence, budget);

@@ -43,8 +43,8 @@ pub trait Rule {
     fn scratch(&self, alloc: Global, problem: &Problem<'_>) -> Result<Self::Scratch, AllocError>
         ensures { IfOk result (λ scratch. is_for scratch problem.now.circuit.now) };
 
-    /// The pair to which a worker of this number climbs from the best one, before its first node and
-    /// until the stop is set, if the strategy climbs.
+    /// The pair to which a worker of this number climbs from the best one, before its first node
+    /// and until the stop is set, if the strategy climbs.
     fn climb(
         &self,
         alloc: Global,

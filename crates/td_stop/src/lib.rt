@@ -1,4 +1,5 @@
-//! When a search is to end: once somebody has set its stop, as a timer does after some seconds.
+//! When a search is to end: once somebody has set its stop, as a timer does after some seconds, or
+//! because somebody asks for it.
 #![tactic(auto)]
 
 mod stop;
@@ -7,4 +8,4 @@ mod tests;
 mod timer;
 
 pub use stop::Stop;
-pub use timer::Timer;
+pub use timer::{Signal, Timer};

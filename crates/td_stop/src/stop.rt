@@ -10,6 +10,7 @@ use std::sync::atomic::{AtomicBool, Ordering};
 #[derive(Drop)]
 pub struct Stop {
     flag: AtomicBool,
+    asked: AtomicBool,
     /// Whether it is ever set.
     pub can_be_set: bool,
 }
@@ -21,6 +22,7 @@ impl Stop {
     {
         Stop {
             flag: AtomicBool::new(false),
+            asked: AtomicBool::new(false),
             can_be_set: true,
         }
     }
@@ -31,6 +33,7 @@ impl Stop {
     {
         Stop {
             flag: AtomicBool::new(false),
+            asked: AtomicBool::new(false),
             can_be_set: false,
         }
     }
@@ -38,6 +41,19 @@ impl Stop {
     /// Sets it, unless it is never set. It stays set.
     pub fn set(&self) {
         self.flag.store(true, Ordering::SeqCst);
+    }
+
+    /// Sets it because somebody asks for the end of the search, and no time has passed.
+    pub fn ask(&self) {
+        self.asked.store(true, Ordering::SeqCst);
+        self.set();
+    }
+
+    /// Whether it is set because somebody asked for it.
+    pub fn was_asked(&self) -> bool
+        ensures { result ≡ true → self.now.can_be_set ≡ true }
+    {
+        self.can_be_set && self.asked.load(Ordering::SeqCst)
     }
 
     /// Whether it is set.

@@ -1,6 +1,7 @@
 ghost use Rattle.std.specs.Prelude.{◌≡◌};
 
-use crate::{Stop, Timer};
+use crate::{Signal, Stop, Timer};
+use std::sync::atomic::{AtomicBool, Ordering};
 use std::test::Fail;
 use std::time::{Clock, Duration};
 use std::{io, thread};
@@ -17,11 +18,65 @@ fn set_where_it_can_be(rt: HostRuntime) -> Result<(), Fail> {
     Ok(())
 }
 
+/// A signal that is given once a flag is set.
+#[derive(Drop)]
+struct Flag {
+    flag: AtomicBool,
+}
+
+impl Flag {
+    fn of(is_set: bool) -> Flag {
+        Flag {
+            flag: AtomicBool::new(is_set),
+        }
+    }
+}
+
+impl Signal for Flag {
+    fn is_given(&self) -> bool {
+        self.flag.load(Ordering::SeqCst)
+    }
+}
+
+#[test]
+fn asked_where_it_can_be(rt: HostRuntime) -> Result<(), Fail> {
+    let stop = Stop::new();
+    assert!(rt; !stop.was_asked());
+    stop.ask();
+    assert!(rt; stop.is_set() && stop.was_asked());
+    let never = Stop::never();
+    never.ask();
+    assert!(rt; !never.is_set() && !never.was_asked());
+    Ok(())
+}
+
 #[test]
 fn timer_sets_a_stop(rt: HostRuntime) -> Result<(), Fail> {
     let stop = Stop::new();
-    Timer::new().run(&rt, 0, &stop);
-    assert!(rt; stop.is_set());
+    Timer::new().run(&rt, Some(0), &Flag::of(false), &stop);
+    assert!(rt; stop.is_set() && !stop.was_asked());
+    Ok(())
+}
+
+#[test]
+fn signal_sets_a_stop(rt: HostRuntime) -> Result<(), Fail> {
+    let stop = Stop::new();
+    Timer::new().run(&rt, None, &Flag::of(true), &stop);
+    assert!(rt; stop.is_set() && stop.was_asked());
+    Ok(())
+}
+
+#[test]
+fn signal_is_seen_later(rt: HostRuntime) -> Result<(), Fail> {
+    let stop = Stop::new();
+    let signal = Flag::of(false);
+    let timer = Timer::new();
+    thread::join(
+        &rt,
+        || timer.run(&rt, Some(1_000_000), &signal, &stop),
+        || signal.flag.store(true, Ordering::SeqCst),
+    );
+    assert!(rt; stop.is_set() && stop.was_asked());
     Ok(())
 }
 
@@ -29,7 +84,11 @@ fn timer_sets_a_stop(rt: HostRuntime) -> Result<(), Fail> {
 fn timer_that_was_ended_sets_none(rt: HostRuntime) -> Result<(), Fail> {
     let stop = Stop::new();
     let timer = Timer::new();
-    thread::join(&rt, || timer.run(&rt, 1_000_000, &stop), || timer.end(&rt));
+    thread::join(
+        &rt,
+        || timer.run(&rt, Some(1_000_000), &Flag::of(false), &stop),
+        || timer.end(&rt),
+    );
     assert!(rt; !stop.is_set());
     Ok(())
 }

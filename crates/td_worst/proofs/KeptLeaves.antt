@@ -1,6 +1,6 @@
 -- The certificate of a tree of one leaf: steps or edges show a bound of the pairs that keep conditions, or
 -- steps that there are none.
-use Rattle.std.proofs.Common.{◌≡◌, ◌∙◌, ℕ, ◌+◌, ◌*◌, ◌<◌, ◌≤◌, ◌^◌, Bool, true, List, [], ◌∷◌, length, refl, sym, ap, subst, arith}
+use Rattle.std.proofs.Common.{◌≡◌, ◌∙◌, ℕ, ◌+◌, ◌<◌, ◌≤◌, ◌^◌, List, [], ◌∷◌, length, refl, sym, ap, subst, arith}
 use Rattle.std.proofs.lemmas.List.Elements.{recursion_from_All}
 use Rattle.std.specs.List.{AllByRecursion}
 use Rattle.std.specs.Prelude.{Option, Some, None, IfSome}
@@ -9,7 +9,6 @@ use Rattle.td_domain.specs.Admits.{Admitted}
 use Rattle.td_domain.proofs.Changing.{vectors_in}
 use Rattle.td_lead.specs.declared.timed.Timed.{Timed}
 use Rattle.td_refutation.specs.declared.conditions.NamedCondition.{NamedCondition}
-use Rattle.td_refutation.specs.Asking.{Asking, IsKept}
 use Rattle.td_refute.specs.Kept.{IsTimedAmong}
 use Rattle.td_certificate.specs.declared.tree.Node.{Node}
 use Rattle.td_certificate.specs.declared.tree.BoundedBy.TheVariants.{Edges}
@@ -27,22 +26,22 @@ use Rattle.td_certificate.specs.Trees.{IsTree}
 use Rattle.td_certificate.specs.Walks.{lines_from}
 use Rattle.td_certificate.proofs.Lengths.{refuted_texts_fit, searched_texts_fit}
 use Rattle.td_search.proofs.Capped.{capped, capped_asking, shows_fewer}
-use Rattle.td_worst.specs.Leaves.{IsLeaf}
+use Rattle.td_search.specs.Opened.{ShowsHigh}
 use Rattle.td_worst.specs.Known.{IsToldLeaf, IsFitted}
 use Rattle.td_worst.specs.Kept.{certificate_with, claim_of, claim_to, IsCertifiedAmong}
+use Rattle.td_worst.proofs.OpenTrees.{good_among, nodes_of}
 use Rattle.td_worst.proofs.Leaves.{cap}
+
+-- ---- of any tree
 
 module _ (given : Setting) (admit : Admitted) (keep : List NamedCondition) (fitted : IsFitted given admit keep) (claim : Option Claim)
     (admitted : ClaimsAdmitted given.netlist (capped_asking (record { admit = admit; keep = keep })) claim) (reached : ClaimsDelay given claim)
     (spelled_claim : MayClaim Fourth (length admit.held) claim) (short_claim : IsShortClaim claim)
-    (leaf : Node) (tree : List Node) (is : tree ≡ leaf ∷ []) (whole : IsTree (leaf ∷ []))
-    (good : AllByRecursion (IsGood given (record { admit = capped admit; keep = keep }) (high_of claim)) (lines_from (admit.pins ∷ []) (leaf ∷ [])))
-    (node : IsNode Fourth leaf)
-    (fits : (c : Certificate) → HasSpelling c → HaveFew c.question.terms → IsShortClaim c.claim → c.tree ≡ leaf ∷ [] → IsWithinLimit (spelling c))
+    (tree : List Node) (whole : IsTree tree)
+    (good : AllByRecursion (IsGood given (record { admit = capped admit; keep = keep }) (high_of claim)) (lines_from (admit.pins ∷ []) tree))
+    (nodes : AllByRecursion (IsNode Fourth) tree)
+    (fits : (c : Certificate) → HasSpelling c → HaveFew c.question.terms → IsShortClaim c.claim → c.tree ≡ tree → IsWithinLimit (spelling c))
     (told : AreConditions keep) (few : length keep ≤ 5000) where
-  is_whole : IsTree tree
-  is_whole = subst IsTree (sym is) whole
-
   spelled : (terms : Terms) → AreTerms (Some terms) → HasSpelling (certificate_with given admit terms claim tree)
   spelled terms are = record {
     inputs = omega (arith, fitted.sizes.inputs, fitted.helds);
@@ -53,12 +52,12 @@ module _ (given : Setting) (admit : Admitted) (keep : List NamedCondition) (fitt
     moments = recursion_from_All _ given.moments fitted.sizes.moments.within;
     terms = are;
     claim = spelled_claim;
-    nodes = subst (λ (nodes : List Node). AllByRecursion (IsNode Fourth) nodes) (sym is) (node, tt);
-    tree = is_whole;
+    nodes = nodes;
+    tree = whole;
   }
 
-  pub certified : IsCertifiedAmong given (record { admit = admit; keep = keep }) claim tree
-  certified = record {
+  pub tree_certified : IsCertifiedAmong given (record { admit = admit; keep = keep }) claim tree
+  tree_certified = record {
     accepted = λ terms told. record {
       size = record {
         inputs = sym fitted.helds;
@@ -69,19 +68,34 @@ module _ (given : Setting) (admit : Admitted) (keep : List NamedCondition) (fitt
       };
       admitted = subst (λ (others : List NamedCondition). ClaimsAdmitted given.netlist (record { admit = capped admit; keep = others }) claim) (sym told) admitted;
       reached = reached;
-      tree = is_whole;
+      tree = whole;
       good = subst (λ (others : List NamedCondition). AllByRecursion (IsGood given (record { admit = capped admit; keep = others }) (high_of claim))
-          (lines_from (admit.pins ∷ []) tree)) (sym told)
-          (subst (λ (nodes : List Node). AllByRecursion (IsGood given (record { admit = capped admit; keep = keep }) (high_of claim)) (lines_from (admit.pins ∷ []) nodes))
-          (sym is) good);
+          (lines_from (admit.pins ∷ []) tree)) (sym told) good;
     };
     written = λ terms told are few. (
       spelled terms are,
-      fits (certificate_with given admit terms claim tree) (spelled terms are) few short_claim is,
+      fits (certificate_with given admit terms claim tree) (spelled terms are) few short_claim refl,
     );
     told = told;
     few = few;
   }
+
+-- ---- of a tree of one leaf
+
+module _ (given : Setting) (admit : Admitted) (keep : List NamedCondition) (fitted : IsFitted given admit keep) (claim : Option Claim)
+    (admitted : ClaimsAdmitted given.netlist (capped_asking (record { admit = admit; keep = keep })) claim) (reached : ClaimsDelay given claim)
+    (spelled_claim : MayClaim Fourth (length admit.held) claim) (short_claim : IsShortClaim claim)
+    (leaf : Node) (tree : List Node) (is : tree ≡ leaf ∷ []) (whole : IsTree (leaf ∷ []))
+    (good : AllByRecursion (IsGood given (record { admit = capped admit; keep = keep }) (high_of claim)) (lines_from (admit.pins ∷ []) (leaf ∷ [])))
+    (node : IsNode Fourth leaf)
+    (fits : (c : Certificate) → HasSpelling c → HaveFew c.question.terms → IsShortClaim c.claim → c.tree ≡ leaf ∷ [] → IsWithinLimit (spelling c))
+    (told : AreConditions keep) (few : length keep ≤ 5000) where
+  pub certified : IsCertifiedAmong given (record { admit = admit; keep = keep }) claim tree
+  certified =
+      tree_certified given admit keep fitted claim admitted reached spelled_claim short_claim tree (subst IsTree (sym is) whole)
+      (subst (λ (nodes : List Node). AllByRecursion (IsGood given (record { admit = capped admit; keep = keep }) (high_of claim)) (lines_from (admit.pins ∷ []) nodes)) (sym is) good)
+      (subst (λ (nodes : List Node). AllByRecursion (IsNode Fourth) nodes) (sym is) (node, tt))
+      (λ c spells asked small same. fits c spells asked small (same ∙ is)) told few
 
 -- of a leaf that steps show
 module _ (given : Setting) (admit : Admitted) (keep : List NamedCondition) (fitted : IsFitted given admit keep) (claim : Option Claim)
@@ -138,6 +152,16 @@ module _ (given : Setting) (admit : Admitted) (keep : List NamedCondition) (fitt
       → (tree : List Node) → IsToldLeaf keep leaf tree → IsCertifiedAmong given (record { admit = admit; keep = keep }) (Some (claim_to best high)) tree
   steps_certified leaf bound e le shows tree is =
       shown_by_steps given admit keep fitted (Some (claim_to best high)) claimed timed.delay told short leaf tree is shows tt (rw e le)
+
+  -- by the tree of a search
+  pub search_certified : AreConditions keep → length keep ≤ 5000 → (tree : List Node) → ShowsHigh given admit high tree
+      → IsCertifiedAmong given (record { admit = admit; keep = keep }) (Some (claim_to best high)) tree
+  search_certified are few tree shows =
+      tree_certified given admit keep fitted (Some (claim_to best high)) claimed timed.delay told short tree shows.whole
+      (good_among given admit keep high (admit.pins ∷ []) tree shows.short shows.good) (nodes_of tree shows.short)
+      (λ c spells asked small_claim same. searched_texts_fit c spells asked small_claim (subst (AllByRecursion IsShort) (sym same) shows.short)
+      (omega (arith, ap length same, shows.few)))
+      are few
 
   -- by edges
   pub edges_certified : (bound : ℕ) → IsBoundBy Edges given admit.pins (Some bound) → bound ≤ high → AreConditions keep → length keep ≤ 5000

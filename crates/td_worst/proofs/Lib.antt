@@ -1,6 +1,7 @@
 pub mod Outcomes
 mod Leaves
 mod KeptLeaves
+mod OpenTrees
 mod EdgeLeaves
 mod Edged
 mod Standings

@@ -14,7 +14,6 @@ use Rattle.td_certificate.specs.Accepts.{Accepts, IsBoundBy}
 use Rattle.td_certificate.specs.Lengths.{HaveFew}
 use Rattle.td_certificate.specs.Questions.{Terms, Question}
 use Rattle.td_certificate.specs.Spelling.{AreConditions, AreTerms}
-use Rattle.td_search.specs.declared.answers.Cause.{Cause}
 use Rattle.td_search.specs.declared.answers.Cause.TheVariants as cause
 use Rattle.td_search.specs.Written.{HasText}
 use Rattle.td_worst.specs.declared.question.KeptQuestion.{KeptQuestion}

@@ -10,7 +10,6 @@ use Rattle.td_certificate.specs.Accepts.{are_fit}
 use Rattle.td_certificate.specs.Spelling.{AreConditions}
 use Rattle.td_certificate.specs.Steps.{Refuted}
 use Rattle.td_search.specs.declared.strategy.Strategy.TheVariants.{Lead}
-use Rattle.td_search.specs.Problems.{Problem}
 use Rattle.td_worst.specs.declared.kept_answer.Known.{Known}
 use Rattle.td_worst.specs.Leaves.{IsLeaf, IsSpellable}
 

@@ -1,6 +1,6 @@
 pub mod Methods
 pub mod Leaves
 pub mod OpenAnswer
-pub mod Faults
 pub mod Kept
 pub mod Known
+pub mod Supports

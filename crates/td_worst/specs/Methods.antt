@@ -11,6 +11,7 @@ use Rattle.td_search.specs.declared.answers.Answer.{Answer}
 use Rattle.td_search.specs.declared.answers.Answer.TheVariants as answer
 use Rattle.td_search.specs.Problems.{Problem, has_delay, problem_by}
 use Rattle.td_search.specs.Answers.{IsAnswer, IsExact, low_of}
+use Rattle.td_search.specs.Opened as opened
 use Rattle.td_worst.specs.declared.method.Method.{Method}
 use Rattle.td_worst.specs.declared.method.Method.TheVariants as method
 use Rattle.td_worst.specs.declared.question.Question.{Question}
@@ -81,8 +82,7 @@ IsWithinEdges asked (answer.Between low high pair nodes why) = (bound : ℕ) →
 
 -- the upper figure, or the time of an exact answer
 abbrev pub high_of : Answer → ℕ
-high_of (answer.Exact time pair tree) = time
-high_of (answer.Between low high pair nodes why) = high
+high_of found = opened.high_of found
 
 -- the figures of an answer lie within those of an earlier one
 pub record IsNarrower (earlier later : Answer) : Type 0 where

@@ -64,8 +64,8 @@ impl OpenAnswer {
 }
 
 /// What the bound of the pins by edges makes of an answer: its upper figure is at most that bound,
-/// and where the pair is as late, the answer is exact. Where memory runs out, what was known stands,
-/// and that is the cause.
+/// and where the pair is as late, the answer is exact. Where memory runs out, what was known
+/// stands, and that is the cause.
 pub fn bounded_by_edges(alloc: Global, problem: &Problem<'_>, known: Answer, budget: u64) -> Answer
     requires some { 0 < budget }
     requires known { IsSoundAnswer (problem_of problem.now) budget known }

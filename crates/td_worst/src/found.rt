@@ -1,50 +1,31 @@
 //! What a search found.
 
-ghost use Rattle.std.specs.Prelude.{◌≡◌, None, IfSome};
+ghost use Rattle.std.specs.Prelude.{◌≡◌, None};
 ghost use Rattle.td_circuit.specs.Settings.{Setting};
 ghost use Rattle.td_domain.specs.Admits.{Admitted};
-ghost use Rattle.td_refute.specs.Answers.{IsShown};
 ghost use Rattle.td_worst.specs.Methods.{is_answered};
+ghost use Rattle.td_worst.specs.Supports.{IsSupport, IsSupportOf};
 
-use td_refute::Refuted;
+use crate::support::{HighTree, Support};
 use td_search::Answer;
 
-/// What a search found: its answer, and, where that is open, steps that show a bound, if there are
-/// some. The bound may be above the answer's upper figure.
+/// What a search found: its answer, and, where that is open, what may show its upper figure.
 #[derive(Drop)]
 pub struct Found {
     pub answer: Answer,
-    pub refuted: Option<Refuted>,
+    pub support: Support,
 }
 
 impl Found {
-    /// An answer without steps.
-    pub(crate) fn of(answer: Answer) -> Found
+    /// An answer without steps, with a tree, if there is one.
+    pub(crate) fn of(answer: Answer, tree: Option<HighTree>) -> Found
         ensures answer { result.answer ≡ answer }
-        ensures refuted { result.refuted ≡ None }
+        ensures steps { result.support.steps ≡ None }
+        ensures support { (given : Setting) (admit : Admitted) → IsSupportOf given admit tree → IsSupport given admit result.support }
     {
-        Found {
-            answer,
-            refuted: None,
-        }
+        let support = Support { steps: None, tree };
+        Found { answer, support }
     }
-}
-
-/// The steps of two searches that show the lower bound.
-pub(crate) fn lower_steps(first: Option<Refuted>, second: Option<Refuted>) -> Option<Refuted>
-    ensures { (given : Setting) (admit : Admitted) → IfSome first (IsShown given admit) → IfSome second (IsShown given admit)
-        → IfSome result (IsShown given admit) }
-{
-    let Some(one) = first else {
-        return second;
-    };
-    let Some(other) = second else {
-        return Some(one);
-    };
-    if one.bound < other.bound {
-        return Some(one);
-    }
-    Some(other)
 }
 
 /// Whether an answer says if a pair is later than a required moment, where there is one.

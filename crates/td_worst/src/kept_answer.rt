@@ -37,8 +37,8 @@ pub enum KeptAnswer {
         best: Timed,
         tree: Tree,
     },
-    /// The latest pair that was found; none is later than the upper figure. Steps that show a bound,
-    /// which may be above that figure, if there are some.
+    /// The latest pair that was found; none is later than the upper figure. Steps that show a
+    /// bound, which may be above that figure, if there are some.
     Between {
         best: Timed,
         high: u64,

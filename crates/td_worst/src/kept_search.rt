@@ -24,15 +24,15 @@ use td_search::{Cause, SearchFault, strongest_bound};
 
 /// Searches for the worst delay of the admitted pairs of a circuit that keep conditions, by spans.
 /// The pairs are of the circuit's inputs, and the conditions are in a certificate's order, on nets
-/// of the circuit. Where a moment is required, the search ends once a pair is later, or none can be.
-/// It ends after as many units of work as the budget of the effort says, or
-/// once the stop is set, and the answer says what is known by then.
+/// of the circuit. Where a moment is required, the search ends once a pair is later, or none can
+/// be. It ends after as many units of work as the budget of the effort says, or once the stop is
+/// set, and the answer says what is known by then.
 ///
 /// # Errors
 ///
 /// `NoPair` where no pair is admitted, whatever it keeps. `OutOfMemory` where memory ran out before
 /// the pins were bounded.
-pub fn worst_kept_until<R: Threads + Sync>(
+pub fn worst_kept<R: Threads + Sync>(
     rt: &R,
     alloc: Global,
     question: KeptQuestion<'_>,
@@ -42,6 +42,7 @@ pub fn worst_kept_until<R: Threads + Sync>(
     requires fit { are_fit (2 + length question.circuit.now.netlist.inputs + length question.circuit.now.netlist.gates) question.keep.now ≡ true }
     ensures answer { IfOk result (IsKeptAnswer (setting question.entry.circuit.now) (asking_in question.entry)) }
     ensures edges { IfOk result (IsKeptWithinEdges (setting question.entry.circuit.now) question.entry.admit.now) }
+    // Time is a cause only where the stop can be set.
     ensures time { IfOk result (KeptTimeNeedsStop limits.entry.stop.now.can_be_set) }
     ensures fault { IfErr result (IsSearchFault (problem_by strategy.Lead question.entry.circuit.now question.entry.admit.now)) }
 {

@@ -22,8 +22,8 @@ pub fn tree_of_leaf(alloc: Global, refuted: &Refuted) -> Result<Option<Tree>, Al
     tree_of_steps(alloc, &refuted.steps, Some(refuted.bound))
 }
 
-/// The tree of one leaf, whose steps show a bound, or that no pair is asked about. None and the error
-/// are as of `tree_of_leaf`.
+/// The tree of one leaf, whose steps show a bound, or that no pair is asked about. None and the
+/// error are as of `tree_of_leaf`.
 pub fn tree_of_steps(
     alloc: Global,
     steps: &[Step],

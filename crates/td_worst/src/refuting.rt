@@ -1,6 +1,6 @@
 //! What a refutation makes of an answer.
 
-ghost use Rattle.std.specs.Prelude.{◌≡◌, Bool, true, ◌<◌, ◌≤◌, ◌^◌, ℕ, IfOk, IfSome};
+ghost use Rattle.std.specs.Prelude.{◌≡◌, Bool, true, ◌<◌, ◌≤◌, ◌^◌, ℕ, None as Nothing, IfOk, IfSome};
 ghost use Rattle.td_circuit.specs.Numbering.{setting};
 ghost use Rattle.td_lead.specs.Timed.{IsTimed};
 ghost use Rattle.td_refute.specs.Answers.{IsShown};
@@ -13,7 +13,6 @@ ghost use Rattle.td_worst.specs.Leaves.{IsSpellable};
 ghost use Rattle.td_worst.specs.Methods.{high_of, IsNarrower, IsSoundAnswer};
 ghost use Rattle.td_worst.specs.OpenAnswer.{IsOpenAnswer};
 
-use crate::found::Found;
 use crate::leaf::tree_of_leaf;
 use std::alloc::{AllocError, Global};
 use std::thread::Threads;
@@ -93,6 +92,27 @@ impl OpenAnswer {
     }
 }
 
+/// What a refutation makes of an answer, and, where that stays open, steps that show a bound, if
+/// there are some. The bound may be above the answer's upper figure.
+#[derive(Drop)]
+pub struct Stepped {
+    pub answer: Answer,
+    pub refuted: Option<Refuted>,
+}
+
+impl Stepped {
+    // An answer without steps.
+    fn of(answer: Answer) -> Stepped
+        ensures answer { result.answer ≡ answer }
+        ensures refuted { result.refuted ≡ Nothing }
+    {
+        Stepped {
+            answer,
+            refuted: None,
+        }
+    }
+}
+
 /// What a refutation makes of an answer, with the steps that show a bound where it stays open. An
 /// exact answer stays as it is. The search ends after as many units of work as its effort says, or
 /// once its stop is set. Where memory runs out, what was known stands.
@@ -103,7 +123,7 @@ pub fn refuted_further<R: Threads + Sync>(
     known: Answer,
     budget: u64,
     effort: Effort<'_>,
-) -> Found
+) -> Stepped
     requires some { 0 < budget }
     requires known { IsSoundAnswer (problem_of problem.now) budget known }
     requires text { CanBeWritten (problem_of problem.now) known }
@@ -114,7 +134,7 @@ pub fn refuted_further<R: Threads + Sync>(
     ensures shown { IfSome result.refuted (IsShown (setting problem.now.circuit.now) problem.now.admit.now) }
 {
     match known {
-        Answer::Exact { time, pair, tree } => Found::of(Answer::Exact { time, pair, tree }),
+        Answer::Exact { time, pair, tree } => Stepped::of(Answer::Exact { time, pair, tree }),
         Answer::Between {
             low,
             high,
@@ -137,7 +157,7 @@ fn refute_open_answer<R: Threads + Sync>(
     known: OpenAnswer,
     budget: u64,
     effort: Effort<'_>,
-) -> Found
+) -> Stepped
     requires some { 0 < budget }
     requires known { IsOpenAnswer (problem_of problem.now) budget known }
     ensures answer { IsSoundAnswer (problem_of problem.now) budget result.answer }
@@ -158,25 +178,25 @@ fn refute_open_answer<R: Threads + Sync>(
             let answer = known.refuted(alloc, &refuted, why);
             with_steps(answer, refuted)
         }
-        Ok(None) => Found::of(known.between(why)),
-        Err(_) => Found::of(known.between(Cause::Memory)),
+        Ok(None) => Stepped::of(known.between(why)),
+        Err(_) => Stepped::of(known.between(Cause::Memory)),
     }
 }
 
 // An answer with the steps, which an exact one has in its tree.
-fn with_steps(answer: Answer, refuted: Refuted) -> Found
+fn with_steps(answer: Answer, refuted: Refuted) -> Stepped
     ensures answer { result.answer ≡ answer }
     ensures steps { IfSome result.refuted (λ steps. steps ≡ refuted) }
 {
     match answer {
-        Answer::Exact { time, pair, tree } => Found::of(Answer::Exact { time, pair, tree }),
+        Answer::Exact { time, pair, tree } => Stepped::of(Answer::Exact { time, pair, tree }),
         Answer::Between {
             low,
             high,
             pair,
             nodes,
             cause,
-        } => Found {
+        } => Stepped {
             answer: Answer::Between {
                 low,
                 high,

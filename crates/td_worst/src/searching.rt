@@ -1,21 +1,22 @@
 //! The search for the worst delay, by any means.
 
-ghost use Rattle.std.specs.Prelude.{◌≡◌, true, min, max, ◌<◌, ◌≤◌, ◌+◌, ◌/◌, ◌^◌, ℕ, length, IfOk, IfErr, IfSome};
+ghost use Rattle.std.specs.Prelude.{◌≡◌, true, min, max, ◌<◌, ◌≤◌, ◌+◌, ◌/◌, ◌^◌, ℕ, length, IfOk, IfErr};
 ghost use Rattle.td_circuit.specs.Numbering.{setting};
-ghost use Rattle.td_refute.specs.Answers.{IsShown};
 ghost use Rattle.td_search.specs.Answers.{IsAnswer, IsSearchFault, TimeNeedsStop};
 ghost use Rattle.td_search.specs.Problems.{problem_by};
 ghost use Rattle.td_search.specs.declared.strategy.Strategy.TheVariants as strategy;
 ghost use Rattle.td_search.specs.Written.{CanBeWritten};
 ghost use Rattle.td_worst.specs.declared.method.Method.TheVariants as by_method;
 ghost use Rattle.td_worst.specs.Methods.{problem_in, first_nodes, goes_further, high_of, is_open, IsAnswerBy, IsSoundAnswer, IsWithinEdges};
+ghost use Rattle.td_worst.specs.Supports.{IsSupport, IsSupportOf};
 
-use crate::combining::combined;
+use crate::combining::with_tree;
 use crate::edge_bound::bounded_by_edges;
-use crate::found::{Found, is_answered, lower_steps};
+use crate::found::{Found, is_answered};
 use crate::method::Method;
 use crate::question::Question;
 use crate::refuting::refuted_further;
+use crate::support::{Support, Treed, lower_steps};
 use std::alloc::Global;
 use std::sync::Wait;
 use std::thread::Threads;
@@ -55,17 +56,17 @@ const LAST: Share = Share {
 };
 
 /// Searches for the worst delay of the admitted pairs of a circuit, by a method. The pairs are of
-/// the circuit's inputs. Where a moment is required, a search by spans ends once a pair is later, or
-/// none can be, and `Auto` ends with the search that says so. Trees have at most as many nodes as
-/// the budget of the effort says, and a search for a refutation ends after that many units of work.
-/// Once the stop is set, the search ends, and the answer says what is known by then. The watch gets
-/// the progress of a tree.
+/// the circuit's inputs. Where a moment is required, a search by spans ends once a pair is later,
+/// or none can be, and `Auto` ends with the search that says so. Trees have at most as many nodes
+/// as the budget of the effort says, and a search for a refutation ends after that many units of
+/// work. Once the stop is set, the search ends, and the answer says what is known by then. The
+/// watch gets the progress of a tree.
 ///
 /// # Errors
 ///
 /// `NoPair` where no pair is admitted. `OutOfMemory` where memory ran out before a first pair was
 /// measured and the pins were bounded, or for what workers share.
-pub fn worst_until<W: Watch, R: Threads + Wait + Sync>(
+pub fn worst<W: Watch, R: Threads + Wait + Sync>(
     rt: &R,
     alloc: Global,
     question: Question<'_>,
@@ -84,8 +85,8 @@ pub fn worst_until<W: Watch, R: Threads + Wait + Sync>(
     ensures text { IfOk result (λ found. CanBeWritten (problem_in question.entry) found.answer) }
     // Time is a cause only where the stop can be set.
     ensures time { IfOk result (λ found. TimeNeedsStop limits.entry.stop.now.can_be_set found.answer) }
-    // The steps show their bound.
-    ensures shown { IfOk result (λ found. IfSome found.refuted (IsShown (setting question.entry.circuit.now) question.entry.admit.now)) }
+    // The steps show their bound, and the tree its moment.
+    ensures shown { IfOk result (λ found. IsSupport (setting question.entry.circuit.now) question.entry.admit.now found.support) }
     ensures fault { IfErr result (IsSearchFault (problem_in question.entry)) }
     // All progress that the watch got is true of what is asked.
     ensures reported { W.reported (problem_in question.entry) watch.old watch.new }
@@ -103,8 +104,9 @@ pub fn worst_until<W: Watch, R: Threads + Wait + Sync>(
                 admit,
                 strategy: method.strategy(),
             };
-            let answer = search(rt, alloc, &problem, &Own, limits, watch)?;
-            Ok(Found::of(answer))
+            let ended = search(rt, alloc, &problem, &Own, limits, watch)?;
+            let found = Treed::of(ended);
+            Ok(Found::of(found.answer, found.tree))
         }
         Method::Refute => by_refutation(rt, alloc, question, limits, watch),
         Method::Auto => by_all(rt, alloc, question, limits, watch),
@@ -124,7 +126,7 @@ fn by_refutation<W: Watch, R: Threads + Wait + Sync>(
     ensures edges { 0 < limits.entry.effort.budget → IfOk result (λ found. IsWithinEdges (problem_by strategy.Lead question.entry.circuit.now question.entry.admit.now) found.answer) }
     ensures text { IfOk result (λ found. CanBeWritten (problem_by strategy.Lead question.entry.circuit.now question.entry.admit.now) found.answer) }
     ensures time { IfOk result (λ found. TimeNeedsStop limits.entry.stop.now.can_be_set found.answer) }
-    ensures shown { IfOk result (λ found. IfSome found.refuted (IsShown (setting question.entry.circuit.now) question.entry.admit.now)) }
+    ensures shown { IfOk result (λ found. IsSupport (setting question.entry.circuit.now) question.entry.admit.now found.support) }
     ensures fault { IfErr result (IsSearchFault (problem_by strategy.Lead question.entry.circuit.now question.entry.admit.now)) }
     ensures reported { W.reported (problem_by strategy.Lead question.entry.circuit.now question.entry.admit.now) watch.old watch.new }
 {
@@ -137,21 +139,29 @@ fn by_refutation<W: Watch, R: Threads + Wait + Sync>(
     let Limits { effort, .. } = limits;
     let budget = effort.budget;
     let none = with_nodes(limits, 0);
-    let known = bounded(rt, alloc, circuit, admit, none, watch)?;
+    let begun = bounded(rt, alloc, circuit, admit, none, watch)?;
     if budget == 0 {
-        return Ok(Found::of(known));
+        return Ok(Found::of(begun.answer, begun.tree));
     }
     let problem = Problem {
         circuit,
         admit,
         strategy: Strategy::Lead,
     };
-    let known = bounded_by_edges(alloc, &problem, known, budget);
+    let known = bounded_by_edges(alloc, &problem, begun.answer, budget);
     if !is_open(&known) || is_answered(required, &known) {
-        return Ok(Found::of(known));
+        return Ok(Found::of(known, begun.tree));
     }
     let further = with_work(limits, budget, required);
-    Ok(refuted_further(rt, alloc, &problem, known, budget, further))
+    let shown = refuted_further(rt, alloc, &problem, known, budget, further);
+    let support = Support {
+        steps: shown.refuted,
+        tree: begun.tree,
+    };
+    Ok(Found {
+        answer: shown.answer,
+        support,
+    })
 }
 
 // What a tree by `Least` comes to, which climbs to no pair.
@@ -162,11 +172,12 @@ fn bounded<W: Watch, R: Threads + Wait + Sync>(
     admit: &Admit,
     limits: Limits<'_>,
     watch: &mut W,
-) -> Result<Answer, SearchFault>
+) -> Result<Treed, SearchFault>
     requires held { length admit.now.held ≡ length circuit.now.netlist.inputs }
-    ensures answer { IfOk result (λ found. (budget : ℕ) → limits.entry.effort.budget ≤ budget → IsSoundAnswer (problem_by strategy.Lead circuit.now admit.now) budget found) }
-    ensures text { IfOk result (CanBeWritten (problem_by strategy.Lead circuit.now admit.now)) }
-    ensures time { IfOk result (TimeNeedsStop limits.entry.stop.now.can_be_set) }
+    ensures answer { IfOk result (λ found. (budget : ℕ) → limits.entry.effort.budget ≤ budget → IsSoundAnswer (problem_by strategy.Lead circuit.now admit.now) budget found.answer) }
+    ensures text { IfOk result (λ found. CanBeWritten (problem_by strategy.Lead circuit.now admit.now) found.answer) }
+    ensures time { IfOk result (λ found. TimeNeedsStop limits.entry.stop.now.can_be_set found.answer) }
+    ensures shown { IfOk result (λ found. IsSupportOf (setting circuit.now) admit.now found.tree) }
     ensures fault { IfErr result (IsSearchFault (problem_by strategy.Lead circuit.now admit.now)) }
     ensures reported { W.reported (problem_by strategy.Lead circuit.now admit.now) watch.old watch.new }
 {
@@ -176,7 +187,7 @@ fn bounded<W: Watch, R: Threads + Wait + Sync>(
         strategy: Strategy::Least,
     };
     let found = search(rt, alloc, &problem, &Own, limits, watch)?;
-    Ok(found)
+    Ok(Treed::of(found))
 }
 
 // Searches a tree by `Least`, bounds the pins by edges, and goes on where that leaves the answer
@@ -196,7 +207,7 @@ fn by_all<W: Watch, R: Threads + Wait + Sync>(
         → IfOk result (λ found. IsWithinEdges (problem_by strategy.Least question.entry.circuit.now question.entry.admit.now) found.answer) }
     ensures text { IfOk result (λ found. CanBeWritten (problem_by strategy.Least question.entry.circuit.now question.entry.admit.now) found.answer) }
     ensures time { IfOk result (λ found. TimeNeedsStop limits.entry.stop.now.can_be_set found.answer) }
-    ensures shown { IfOk result (λ found. IfSome found.refuted (IsShown (setting question.entry.circuit.now) question.entry.admit.now)) }
+    ensures shown { IfOk result (λ found. IsSupport (setting question.entry.circuit.now) question.entry.admit.now found.support) }
     ensures fault { IfErr result (IsSearchFault (problem_by strategy.Least question.entry.circuit.now question.entry.admit.now)) }
     ensures reported { W.reported (problem_by strategy.Least question.entry.circuit.now question.entry.admit.now) watch.old watch.new }
 {
@@ -215,17 +226,22 @@ fn by_all<W: Watch, R: Threads + Wait + Sync>(
     let budget = effort.budget;
     let nodes = nodes_of(circuit, FIRST, budget);
     let first = with_nodes(limits, nodes);
-    let known = search(rt, alloc, &problem, &Own, first, watch)?;
+    let ended = search(rt, alloc, &problem, &Own, first, watch)?;
+    let begun = Treed::of(ended);
     let left = budget - nodes;
     if left == 0 {
-        return Ok(Found::of(known));
+        return Ok(Found::of(begun.answer, begun.tree));
     }
-    let known = bounded_by_edges(alloc, &problem, known, nodes);
+    let known = bounded_by_edges(alloc, &problem, begun.answer, nodes);
     if !is_open(&known) || is_answered(required, &known) {
-        return Ok(Found::of(known));
+        return Ok(Found::of(known, begun.tree));
     }
+    let edged = Treed {
+        answer: known,
+        tree: begun.tree,
+    };
     let rest = with_nodes(limits, left);
-    Ok(further(rt, alloc, question, known, nodes, rest, watch))
+    Ok(further(rt, alloc, question, edged, nodes, rest, watch))
 }
 
 // Goes on from what trees with some nodes came to: searches for a refutation with little work, then
@@ -235,7 +251,7 @@ fn further<W: Watch, R: Threads + Wait + Sync>(
     rt: &R,
     alloc: Global,
     question: Question<'_>,
-    known: Answer,
+    known: Treed,
     nodes: u64,
     limits: Limits<'_>,
     watch: &mut W,
@@ -243,13 +259,14 @@ fn further<W: Watch, R: Threads + Wait + Sync>(
     requires some { 0 < nodes }
     requires fits { nodes + limits.effort.budget < 2 ^ 64 }
     requires held { length question.admit.now.held ≡ length question.circuit.now.netlist.inputs }
-    requires known { IsSoundAnswer (problem_by strategy.Least question.circuit.now question.admit.now) nodes known }
-    requires text { CanBeWritten (problem_by strategy.Least question.circuit.now question.admit.now) known }
+    requires known { IsSoundAnswer (problem_by strategy.Least question.circuit.now question.admit.now) nodes known.answer }
+    requires text { CanBeWritten (problem_by strategy.Least question.circuit.now question.admit.now) known.answer }
+    requires tree { IsSupportOf (setting question.circuit.now) question.admit.now known.tree }
     ensures answer { IsSoundAnswer (problem_by strategy.Least question.entry.circuit.now question.entry.admit.now) (nodes + limits.entry.effort.budget) result.answer }
     ensures text { CanBeWritten (problem_by strategy.Least question.entry.circuit.now question.entry.admit.now) result.answer }
-    ensures high { high_of result.answer ≤ high_of known }
+    ensures high { high_of result.answer ≤ high_of known.answer }
     ensures time { TimeNeedsStop limits.entry.stop.now.can_be_set result.answer }
-    ensures shown { IfSome result.refuted (IsShown (setting question.entry.circuit.now) question.entry.admit.now) }
+    ensures shown { IsSupport (setting question.entry.circuit.now) question.entry.admit.now result.support }
     ensures reported { W.reported (problem_by strategy.Least question.entry.circuit.now question.entry.admit.now) watch.old watch.new }
 {
     let Question {
@@ -267,35 +284,62 @@ fn further<W: Watch, R: Threads + Wait + Sync>(
     let budget = effort.budget;
     let quick = QUICK.min(budget / 4);
     let little = with_work(limits, quick, required);
-    let soon = refuted_further(rt, alloc, &problem, known, nodes, little);
+    let soon = refuted_further(rt, alloc, &problem, known.answer, nodes, little);
     if !is_open(&soon.answer) || is_answered(required, &soon.answer) {
-        return soon;
+        let support = Support {
+            steps: soon.refuted,
+            tree: known.tree,
+        };
+        return Found {
+            answer: soon.answer,
+            support,
+        };
     }
     let left = budget - quick;
     let more = nodes_of(circuit, SECOND, left / 2);
     let most = nodes_of(circuit, LAST, (left - more) / 2);
+    let stepped = Treed {
+        answer: soon.answer,
+        tree: known.tree,
+    };
     let second = with_nodes(limits, more);
-    let led = led_further(rt, alloc, circuit, admit, soon.answer, second, watch);
-    if is_answered(required, &led) {
+    let led = led_further(rt, alloc, circuit, admit, stepped, second, watch);
+    if is_answered(required, &led.answer) {
+        let support = Support {
+            steps: soon.refuted,
+            tree: led.tree,
+        };
         return Found {
-            answer: led,
-            refuted: soon.refuted,
+            answer: led.answer,
+            support,
         };
     }
     let much = with_work(limits, left - more - most, required);
-    let shown = refuted_further(rt, alloc, &problem, led, nodes + more, much);
-    let refuted = lower_steps(soon.refuted, shown.refuted);
+    let shown = refuted_further(rt, alloc, &problem, led.answer, nodes + more, much);
+    let steps = lower_steps(soon.refuted, shown.refuted);
     if is_exact(&shown.answer) || is_answered(required, &shown.answer) {
+        let support = Support {
+            steps,
+            tree: led.tree,
+        };
         return Found {
             answer: shown.answer,
-            refuted,
+            support,
         };
     }
+    let again = Treed {
+        answer: shown.answer,
+        tree: led.tree,
+    };
     let last = with_nodes(limits, most);
-    let ended = led_further(rt, alloc, circuit, admit, shown.answer, last, watch);
+    let ended = led_further(rt, alloc, circuit, admit, again, last, watch);
+    let support = Support {
+        steps,
+        tree: ended.tree,
+    };
     Found {
-        answer: ended,
-        refuted,
+        answer: ended.answer,
+        support,
     }
 }
 
@@ -361,17 +405,18 @@ fn led_further<W: Watch, R: Threads + Wait + Sync>(
     alloc: Global,
     circuit: &Circuit,
     admit: &Admit,
-    known: Answer,
+    known: Treed,
     limits: Limits<'_>,
     watch: &mut W,
-) -> Answer
+) -> Treed
     requires held { length admit.now.held ≡ length circuit.now.netlist.inputs }
-    ensures answer { (budget : ℕ) → IsSoundAnswer (problem_by strategy.Least circuit.now admit.now) budget known
-        → CanBeWritten (problem_by strategy.Least circuit.now admit.now) known
-        → IsSoundAnswer (problem_by strategy.Least circuit.now admit.now) (budget + limits.entry.effort.budget) result
-        × CanBeWritten (problem_by strategy.Least circuit.now admit.now) result }
-    ensures high { (budget : ℕ) → IsSoundAnswer (problem_by strategy.Least circuit.now admit.now) budget known → high_of result ≤ high_of known }
-    ensures time { TimeNeedsStop limits.entry.stop.now.can_be_set known → TimeNeedsStop limits.entry.stop.now.can_be_set result }
+    ensures answer { (budget : ℕ) → IsSoundAnswer (problem_by strategy.Least circuit.now admit.now) budget known.answer
+        → CanBeWritten (problem_by strategy.Least circuit.now admit.now) known.answer
+        → IsSoundAnswer (problem_by strategy.Least circuit.now admit.now) (budget + limits.entry.effort.budget) result.answer
+        × CanBeWritten (problem_by strategy.Least circuit.now admit.now) result.answer }
+    ensures high { (budget : ℕ) → IsSoundAnswer (problem_by strategy.Least circuit.now admit.now) budget known.answer → high_of result.answer ≤ high_of known.answer }
+    ensures time { TimeNeedsStop limits.entry.stop.now.can_be_set known.answer → TimeNeedsStop limits.entry.stop.now.can_be_set result.answer }
+    ensures shown { IsSupportOf (setting circuit.now) admit.now known.tree → IsSupportOf (setting circuit.now) admit.now result.tree }
     ensures reported { W.reported (problem_by strategy.Least circuit.now admit.now) watch.old watch.new }
 {
     if limits.effort.budget == 0 {
@@ -383,7 +428,7 @@ fn led_further<W: Watch, R: Threads + Wait + Sync>(
         strategy: Strategy::Lead,
     };
     match search(rt, alloc, &problem, &Own, limits, watch) {
-        Ok(found) => combined(known, found),
+        Ok(found) => with_tree(known, Treed::of(found)),
         Err(_) => known,
     }
 }

@@ -4,6 +4,8 @@
 #[cfg(test)]
 mod methods;
 #[cfg(test)]
+mod opened;
+#[cfg(test)]
 mod required;
 #[cfg(test)]
-mod seconds;
+mod stops;

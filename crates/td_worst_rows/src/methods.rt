@@ -7,18 +7,18 @@ use std::process::Abort;
 use std::sync::Wait;
 use std::test::*;
 use std::thread::Threads;
-use std::time::Clock;
 use td_certificate::Tree;
 use td_circuit::{Circuit, build};
 use td_domain::Admit;
 use td_gates::Delay;
 use td_netlist::read;
-use td_pool::{Effort, Unwatched};
+use td_pool::{Effort, Limits, Unwatched};
 use td_search::{Answer, Cause};
-use td_worst::{Method, Question, TimedEffort, WorstFault, worst};
+use td_stop::Stop;
+use td_worst::{Method, Question, worst};
 
 /// A pulse of one step that the second gate swallows. Edges bound it by 3.
-const PULSE: &str =
+pub const PULSE: &str =
     "module m(a, y); input a; output y; not #1 n(b, a); and #2 g(y, a, b); endmodule";
 
 /// A way that no pair can go along: its last gate is open only while its first one is closed.
@@ -26,11 +26,11 @@ pub const FALSE_WAY: &str = "module m(a, b, s, y); input a, b, s; output y; not 
 and #5 g0(c, a, s); or #1 g1(d, c, b); and #7 g2(e, d, t); or #1 g3(y, e, s); endmodule";
 
 /// A signal that meets itself again.
-const RECONVERGENT: &str = "module t (a, b, y); input a, b; output y;
+pub const RECONVERGENT: &str = "module t (a, b, y); input a, b; output y;
     buf #1 p1(p,b); buf #1 p2(q,b); xor #3 g(y,a,p,q); endmodule";
 
 /// Two gates that are slow one way each: a change passes 6 later, by arrival windows alone 10.
-const INVERTERS: &str =
+pub const INVERTERS: &str =
     "module m(a, y); input a; output y; not #(1,5) n(b, a); not #(1,5) g(y, b); endmodule";
 
 /// The circuit of a netlist. The error is out of memory, or a text that is refused.
@@ -57,7 +57,7 @@ pub fn all_of(rt: &impl Abort, alloc: Global, circuit: &Circuit) -> Result<Admit
 }
 
 /// What a method answers of all pairs of a netlist.
-fn answered<R: Threads + Wait + Clock + Sync + Abort>(
+fn answered<R: Threads + Wait + Sync + Abort>(
     rt: &R,
     alloc: Global,
     netlist: &str,
@@ -65,24 +65,21 @@ fn answered<R: Threads + Wait + Clock + Sync + Abort>(
     budget: u64,
 ) -> Result<Answer, Fail> {
     assert!(rt; budget <= 10_000_000);
-    let effort = TimedEffort {
+    let limits = Limits {
         effort: Effort { workers: 1, budget },
-        seconds: None,
+        stop: &Stop::never(),
     };
-    match answer_of(rt, alloc, netlist, method, effort)? {
-        Ok(answer) => Ok(answer),
-        Err(_) => Err(Fail::from("no answer")),
-    }
+    answer_of(rt, alloc, netlist, method, limits)
 }
 
-/// What a method answers of all pairs of a netlist with this effort, or why it has no answer.
-pub fn answer_of<R: Threads + Wait + Clock + Sync + Abort>(
+/// What a method answers of all pairs of a netlist within these limits.
+pub fn answer_of<R: Threads + Wait + Sync + Abort>(
     rt: &R,
     alloc: Global,
     netlist: &str,
     method: Method,
-    effort: TimedEffort,
-) -> Result<Result<Answer, WorstFault>, Fail> {
+    limits: Limits<'_>,
+) -> Result<Answer, Fail> {
     let circuit = circuit_of(alloc, netlist)?;
     let admit = all_of(rt, alloc, &circuit)?;
     let question = Question {
@@ -91,9 +88,9 @@ pub fn answer_of<R: Threads + Wait + Clock + Sync + Abort>(
         method,
         required: None,
     };
-    match worst(rt, alloc, question, effort, &mut Unwatched) {
-        Ok(found) => Ok(Ok(found.answer)),
-        Err(fault) => Ok(Err(fault)),
+    match worst(rt, alloc, question, limits, &mut Unwatched) {
+        Ok(found) => Ok(found.answer),
+        Err(_) => Err(Fail::from("no answer")),
     }
 }
 

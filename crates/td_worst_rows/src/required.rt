@@ -6,26 +6,23 @@ use std::process::Abort;
 use std::sync::Wait;
 use std::test::*;
 use std::thread::Threads;
-use std::time::Clock;
 use td_lead::Timed;
-use td_pool::{Effort, Unwatched};
+use td_pool::{Effort, Limits, Unwatched};
 use td_search::Answer;
+use td_stop::Stop;
 use td_worst::{
-    Found, KeptAnswer, KeptQuestion, Method, Question, TimedEffort, tree_of_high, worst, worst_kept,
+    Found, KeptAnswer, KeptQuestion, Method, Question, Support, tree_of_high, worst, worst_kept,
 };
 
 /// One worker, and more work than these questions take.
-const ENOUGH: TimedEffort = TimedEffort {
-    effort: Effort {
-        workers: 1,
-        budget: 1_000_000,
-    },
-    seconds: None,
+const ENOUGH: Effort = Effort {
+    workers: 1,
+    budget: 1_000_000,
 };
 
 /// The figures of a search of all pairs where this moment is required, and how many nodes the tree
 /// has that shows the upper one, 0 where there is none.
-fn figures<R: Threads + Wait + Clock + Sync + Abort>(
+fn figures<R: Threads + Wait + Sync + Abort>(
     rt: &R,
     alloc: Global,
     required: Option<u64>,
@@ -38,7 +35,11 @@ fn figures<R: Threads + Wait + Clock + Sync + Abort>(
         method: Method::Refute,
         required,
     };
-    match worst(rt, alloc, question, ENOUGH, &mut Unwatched) {
+    let limits = Limits {
+        effort: ENOUGH,
+        stop: &Stop::never(),
+    };
+    match worst(rt, alloc, question, limits, &mut Unwatched) {
         Ok(Found { answer, .. }) => match answer {
             Answer::Exact { time, .. } => Ok((time, time)),
             Answer::Between { low, high, .. } => Ok((low, high)),
@@ -48,7 +49,7 @@ fn figures<R: Threads + Wait + Clock + Sync + Abort>(
 }
 
 /// Likewise of the pairs that keep no condition, by the search by spans alone.
-fn shown<R: Threads + Wait + Clock + Sync + Abort>(
+fn shown<R: Threads + Wait + Sync + Abort>(
     rt: &R,
     alloc: Global,
     required: u64,
@@ -61,7 +62,11 @@ fn shown<R: Threads + Wait + Clock + Sync + Abort>(
         keep: &[],
         required: Some(required),
     };
-    match worst_kept(rt, alloc, question, ENOUGH) {
+    let limits = Limits {
+        effort: ENOUGH,
+        stop: &Stop::never(),
+    };
+    match worst_kept(rt, alloc, question, limits) {
         Ok(
             KeptAnswer::Between {
                 best,
@@ -70,7 +75,8 @@ fn shown<R: Threads + Wait + Clock + Sync + Abort>(
                 ..
             },
         ) => {
-            let tree = tree_of_high(alloc, question, &best, high, &refuted);
+            let support = Support::by_steps(refuted);
+            let tree = tree_of_high(alloc, question, &best, high, support);
             let nodes = tree.map_or(0, |tree| tree.nodes().len());
             let Timed { time, .. } = best;
             Ok((time, high, nodes))

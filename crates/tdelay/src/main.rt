@@ -5,7 +5,7 @@ use std::env::Env;
 use std::io::IsTerminal;
 use std::process::ExitCode;
 use std::{env, io};
-use td_cli::{program, refuse_words};
+use td_cli::{System, program, refuse_words};
 use td_files::{ReadFault, RealFiles, WriterSink};
 use td_terminal::InPlace;
 
@@ -39,7 +39,8 @@ fn main(rt: HostRuntime) -> ExitCode {
     let status = match words {
         Ok(words) => {
             let words = words.as_slice();
-            program(&rt, alloc, words, &mut files, &mut out, &mut err, hints)
+            let system = System::new(&rt, hints);
+            program(&rt, alloc, words, &mut files, &mut out, &mut err, &system)
         }
         Err(error) => refuse_words(ReadFault::from(error), &mut err),
     };

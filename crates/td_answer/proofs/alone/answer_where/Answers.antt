@@ -25,5 +25,4 @@ returns-clause-answer g c =
 pub returns-in_err-answer-clause-refusal : goal.returns-in_err-answer-clause-refusal
 returns-in_err-answer-clause-refusal g c =
     let reported = err_from_is_err_and c.from_residual-in_err-answer.result c.from_residual-in_err-answer.ensures.1 in
-    rw (reported.1, reported.2) (unanswered c.args.alone.inquiry.search.now (problem_by Lead c.args.alone.circuit.now c.args.alone.inquiry.admit.now)
-    _ c.in_err-answer.field-0.0 c.effort_of.ensures.timed c.in_err-answer.ensures.fault)
+    rw (reported.1, reported.2) (unanswered (problem_by Lead c.args.alone.circuit.now c.args.alone.inquiry.admit.now) c.in_err-answer.field-0.0 c.in_err-answer.ensures.fault)

@@ -12,6 +12,7 @@ use Rattle.td_question.specs.Keeping.{count_nets}
 use Rattle.td_answer.specs.Columns.{HasChanges, pairs_of}
 use Rattle.td_answer.specs.Names.{label}
 use Rattle.td_answer.specs.Tables.{AreTrueFigures}
+use Rattle.td_answer.proofs.RowStanding.{says_standing}
 use Rattle.td_answer.proofs.each.row_of.Goals as goal
 
 pub timing_of-requires-clause-held : goal.timing_of-requires-clause-held
@@ -62,10 +63,15 @@ returns-clause-row g c = λ output stands.
     let asked = c.in_ok-ask.ensures.asked (name_of c.index-names-place.result) at in
     let same = some-same (name_of c.index-names-place.result) output (sym at ∙ stands) in
     let there = asked ∙ ap (alone (setting c.args.outputs.now.whole)) same in
+    let figures = subst (λ (s : Setting). AreTrueFigures s (pairs_of c.args.inquiry) c.in_ok-found.field-0.found c.in_ok-found.field-0.edges) there
+    (rw c.circuit-circuit.ensures at c.in_ok-found.ensures.timing) in
     record {
       named = c.in_ok-output.ensures ∙ ap label same;
-      figures = subst (λ (s : Setting). AreTrueFigures s (pairs_of c.args.inquiry) c.in_ok-found.field-0.found c.in_ok-found.field-0.edges) there
-          (rw c.circuit-circuit.ensures at c.in_ok-found.ensures.timing);
+      figures = figures;
       changes = subst (λ (s : Setting). HasChanges c.args.inquiry.search.now.table s (pairs_of c.args.inquiry) c.in_ok-changes.changes) there
           (rw c.circuit-circuit.ensures at c.in_ok-changes.ensures.changes);
+      by_figures = c.requirement_of-required.ensures;
+      stands = rw c.requirement_of-required.ensures
+          (says_standing (alone (setting c.args.outputs.now.whole) output) (pairs_of c.args.inquiry) c.args.inquiry.search.now.required c.in_ok-found.field-0.found
+          figures.figure);
     }

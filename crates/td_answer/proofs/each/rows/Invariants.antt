@@ -9,4 +9,4 @@ use Rattle.td_answer.proofs.each.rows.Given as goal
 abbrev pub invariant-loop-place : goal.invariant-loop-place
 invariant-loop-place g l =
     (l.outputs.whole ≡ l.initial.outputs.whole)
-    × AllZip (IsTrueRow (setting l.initial.outputs.whole) (pairs_of l.inquiry) l.inquiry.search.now.table) (take l.place l.initial.outputs.whole.netlist.outputs) l.rows.items
+    × AllZip (IsTrueRow (setting l.initial.outputs.whole) (pairs_of l.inquiry) l.inquiry.search.now) (take l.place l.initial.outputs.whole.netlist.outputs) l.rows.items

@@ -27,14 +27,12 @@ worst_kept-requires-clause-fit g c κs within = c.requires.fit
 pub returns-in_err-answer-clause-refusal : goal.returns-in_err-answer-clause-refusal
 returns-in_err-answer-clause-refusal g c =
     let reported = err_from_is_err_and c.from_residual-in_err-answer.result c.from_residual-in_err-answer.ensures.1 in
-    rw (reported.1, reported.2) (unanswered c.args.inquiry.search.now (problem_by Lead c.args.circuit.now c.args.inquiry.admit.now)
-    _ c.in_err-answer.field-0.0 c.effort_of-effort.ensures.timed c.in_err-answer.ensures.fault)
+    rw (reported.1, reported.2) (unanswered (problem_by Lead c.args.circuit.now c.args.inquiry.admit.now) c.in_err-answer.field-0.0 c.in_err-answer.ensures.fault)
 
 pub returns-in_err-found-clause-refusal : goal.returns-in_err-found-clause-refusal
 returns-in_err-found-clause-refusal g c =
     let reported = err_from_is_err_and c.from_residual-in_err-found.result c.from_residual-in_err-found.ensures.1 in
-    rw (reported.1, reported.2) (unanswered c.args.inquiry.search.now (problem_by (tree_of c.method_of.result) c.args.circuit.now c.args.inquiry.admit.now)
-    _ c.in_err-found.field-0.0 c.effort_of-effort-2.ensures.timed c.in_err-found.ensures.fault)
+    rw (reported.1, reported.2) (unanswered (problem_by (tree_of c.method_of.result) c.args.circuit.now c.args.inquiry.admit.now) c.in_err-found.field-0.0 c.in_err-found.ensures.fault)
 
 pub returns-then-not-is_empty-clause-timing : goal.returns-then-not-is_empty-clause-timing
 returns-then-not-is_empty-clause-timing g c = record {
@@ -47,7 +45,7 @@ pub returns-clause-timing : goal.returns-clause-timing
 returns-clause-timing g c = record {
   figure = rw c.found_of.ensures (subst (λ (keep : List NamedCondition). IsTrueFound (setting c.args.circuit.now) (record { admit = c.args.inquiry.admit.now; keep = keep }) (found_of c.in_ok-found.found.answer))
       (sym (no_rows c.args.inquiry.keep.now (eqb-true _ _ (sym c.is_empty.ensures ∙ c.if-not-is_empty.false))))
-      (true_found (problem_by (tree_of c.method_of.result) c.args.circuit.now c.args.inquiry.admit.now) c.effort_of-effort-2.result.effort.budget c.in_ok-found.found.answer
-      (outcome_by c.method_of.result _ c.effort_of-effort-2.result.effort.budget c.in_ok-found.found.answer c.in_ok-found.ensures.answer)));
+      (true_found (problem_by (tree_of c.method_of.result) c.args.circuit.now c.args.inquiry.admit.now) c.args.inquiry.limits.effort.budget c.in_ok-found.found.answer
+      (outcome_by c.method_of.result _ c.args.inquiry.limits.effort.budget c.in_ok-found.found.answer c.in_ok-found.ensures.answer)));
   bound = rw c.pins.ensures.pins at c.in_ok-edges.ensures.sound;
 }

@@ -1,8 +1,13 @@
-use Rattle.std.proofs.Common.{refl, inl, inr}
+use Rattle.std.proofs.Common.{inl, inr, sym, subst}
 use Rattle.std.proofs.lemmas.Result.{err_from_is_err_and}
 use Rattle.td_circuit.specs.Numbering.{setting}
+use Rattle.td_certificate.specs.Accepts.{setting_of}
+use Rattle.td_certificate.specs.Questions.{asking_of}
 use Rattle.td_answer.proofs.Filling.{asks_same}
-use Rattle.td_answer.proofs.Whole.{admits_asked, parts_spelled, whole_true}
+use Rattle.td_answer.proofs.Whole.{admits_asked, parts_spelled, whole_true, standing_true}
+use Rattle.td_answer.specs.Joins.{TellsStanding}
+use Rattle.td_answer.specs.Lines.{standing_lines}
+use Rattle.td_answer.specs.declared.status.Status.{Status}
 use Rattle.td_answer.proofs.join.join.Goals as goal
 
 pub returns-in_err-sought-clause-refusal : goal.returns-in_err-sought-clause-refusal
@@ -46,6 +51,8 @@ returns-clause-says c =
     let netlist = c.in_ok-sought.sought.circuit.netlist in
     let spelled = c.in_ok-whole.ensures.spelled (parts_spelled c.args.texts.now.netlist.now c.args.reading.now netlist circuit
     c.args.asked.now.check _ _ c.in_ok-parts.parts.items are) in
+    let claims = whole_true c.args.texts.now.netlist.now c.args.reading.now netlist circuit c.args.asked.now.check _ _
+    c.in_ok-parts.parts.items _ c.in_ok-whole.whole c.gates-gates.ensures.numbering.well_formed are c.in_ok-whole.ensures.joined spelled c.in_ok-whole.ensures.accepted in
     record {
       setting = setting c.in_ok-sought.sought.circuit;
       asking = record { admit = c.in_ok-sought.sought.admit; keep = c.in_ok-sought.sought.keep.items };
@@ -62,10 +69,13 @@ returns-clause-says c =
       has_text = spelled;
       few = c.in_ok-whole.ensures.few;
       accepted = c.in_ok-whole.ensures.accepted;
-      claims = whole_true c.args.texts.now.netlist.now c.args.reading.now netlist circuit c.args.asked.now.check _ _
-          c.in_ok-parts.parts.items _ c.in_ok-whole.whole c.gates-gates.ensures.numbering.well_formed are c.in_ok-whole.ensures.joined spelled c.in_ok-whole.ensures.accepted;
+      claims = claims;
+      stands = λ check.
+          subst (λ (ending : Status). TellsStanding (setting_of netlist c.in_ok-whole.whole) (asking_of c.in_ok-whole.whole.question) c.args.asked.now.required c.in_ok-whole.whole.claim
+          (standing_lines c.args.asked.now.required c.in_ok-whole.whole.claim) ending) (sym c.ending_of_whole-status.ensures)
+          (standing_true (setting_of netlist c.in_ok-whole.whole) (asking_of c.in_ok-whole.whole.question) c.args.asked.now.required c.in_ok-whole.whole.claim (claims check));
       is = c.in_ok-report.ensures;
-      ends = refl;
+      ends = c.ending_of_whole-status.ensures;
     }
 
 pub returns-clause-written : goal.returns-clause-written

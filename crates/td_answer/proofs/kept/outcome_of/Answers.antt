@@ -1,5 +1,6 @@
 use Rattle.std.specs.Prelude.{is_some, false, None}
 use Rattle.td_circuit.specs.Numbering.{setting}
+use Rattle.td_worst.specs.Kept.{asking_by}
 use Rattle.td_answer.specs.Runs.{RunsPair}
 use Rattle.td_answer.proofs.KeptOnes.{best_fits, exact_says, between_says, at_most_says, none_says, exact_kept, none_kept, between_kept, open_kept, certificate_written, open_written}
 use Rattle.td_answer.proofs.Writable.{certificate_and_dump, spelled_and_dump}
@@ -23,7 +24,7 @@ between-requires c =
       second_fits = fits.1;
       timed = is.0.timed;
       ordered = is.0.ordered;
-      shown = is.1;
+      shown = c.by_steps-support.ensures.among (setting c.args.circuit) (asking_by c.args.admit c.args.told.keep.items) is.1;
     }
 
 pub returns-in_ok-closed-in-Exact-clause-says : goal.returns-in_ok-closed-in-Exact-clause-says
@@ -47,13 +48,13 @@ returns-in_ok-closed-in-Exact-clause-written c =
 
 pub returns-in_ok-lying-in-Between-clause-says : goal.returns-in_ok-lying-in-Between-clause-says
 returns-in_ok-lying-in-Between-clause-says c = λ text reading asked.
-    between_says c.args.circuit c.args.admit c.args.told c.args.search.now text reading asked c.in_ok-lying-in-Between.lying c.in-Between.best c.in-Between.high c.in-Between.cause
+    between_says c.args.circuit c.args.admit c.args.told c.args.search.now text reading asked c.in_ok-lying-in-Between.lying c.in-Between.best c.in-Between.high c.cause_of-why.result
     (rw c.in-Between.is at c.requires.answer).0 c.in_ok-lying-in-Between.ensures.report c.in_ok-lying-in-Between.ensures.status c.in_ok-lying-in-Between.ensures.dumped
 
 pub returns-in_ok-lying-in-Between-clause-certified : goal.returns-in_ok-lying-in-Between-clause-certified
 returns-in_ok-lying-in-Between-clause-certified c = λ text reading asked are_outputs same.
     between_kept c.args.circuit c.args.admit c.args.told c.args.search.now text reading asked c.in_ok-lying-in-Between.lying are_outputs same
-    c.in-Between.best c.in-Between.high c.in-Between.cause c.in_ok-lying-in-Between.ensures.certificate c.in_ok-lying-in-Between.ensures.report
+    c.in-Between.best c.in-Between.high c.cause_of-why.result c.in_ok-lying-in-Between.ensures.certificate c.in_ok-lying-in-Between.ensures.report
 
 pub returns-in_ok-lying-in-Between-clause-written : goal.returns-in_ok-lying-in-Between-clause-written
 returns-in_ok-lying-in-Between-clause-written c =
@@ -63,12 +64,12 @@ returns-in_ok-lying-in-Between-clause-written c =
 
 pub returns-in_ok-bounded-in-Open-clause-says : goal.returns-in_ok-bounded-in-Open-clause-says
 returns-in_ok-bounded-in-Open-clause-says c = λ text reading asked.
-    at_most_says c.args.circuit c.args.admit c.args.told c.args.search.now text reading asked c.in_ok-bounded-in-Open.bounded c.in-Open.high c.in-Open.cause
+    at_most_says c.args.circuit c.args.admit c.args.told c.args.search.now text reading asked c.in_ok-bounded-in-Open.bounded c.in-Open.high c.cause_of-why-in-Open.result
     (rw c.in-Open.is at c.requires.answer) c.in_ok-bounded-in-Open.ensures.report c.in_ok-bounded-in-Open.ensures.status c.in_ok-bounded-in-Open.ensures.dumped
 
 pub returns-in_ok-bounded-in-Open-clause-certified : goal.returns-in_ok-bounded-in-Open-clause-certified
 returns-in_ok-bounded-in-Open-clause-certified c = λ text reading asked are_outputs same.
-    open_kept c.args.circuit c.args.admit c.args.told c.args.search.now text reading asked c.in_ok-bounded-in-Open.bounded c.in-Open.high c.in-Open.cause
+    open_kept c.args.circuit c.args.admit c.args.told c.args.search.now text reading asked c.in_ok-bounded-in-Open.bounded c.in-Open.high c.cause_of-why-in-Open.result
     c.in_ok-bounded-in-Open.ensures.certificate c.in_ok-bounded-in-Open.ensures.report
 
 pub returns-in_ok-empty-in-NoPair-clause-says : goal.returns-in_ok-empty-in-NoPair-clause-says

@@ -27,7 +27,7 @@ pub returns-in_err-answer-clause-refusal : goal.returns-in_err-answer-clause-ref
 returns-in_err-answer-clause-refusal g c =
     let reported = err_from_is_err_and c.from_residual.result c.from_residual.ensures.1 in
     rw (reported.1, reported.2) (refused c.args.text.now c.args.reading.now c.args.search.now c.args.asked.circuit c.args.asked.admit Lead c.requires.asked
-    _ c.in_err-answer.field-0.0 c.effort_of-effort.ensures.timed c.in_err-answer.ensures.fault)
+    c.in_err-answer.field-0.0 c.in_err-answer.ensures.fault)
 
 pub returns-clause-says : goal.returns-clause-says
 returns-clause-says g c =

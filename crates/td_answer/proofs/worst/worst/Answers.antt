@@ -26,9 +26,9 @@ pub outcome_of-requires : goal.outcome_of-requires
 outcome_of-requires g c =
     let asked = c.in_ok-asked.asked in
     let problem = problem_by (tree_of c.method_of-method.result) asked.circuit asked.admit in
-    let sound = outcome_by c.method_of-method.result problem c.effort_of-effort.result.effort.budget c.in_ok-found.found.answer c.in_ok-found.ensures.answer in
-    let fits = pair_fits c.method_of-method.result problem c.effort_of-effort.result.effort.budget c.in_ok-found.found.answer c.in_ok-found.ensures.answer in
-    let known = figures_of problem c.effort_of-effort.result.effort.budget c.in_ok-found.found.answer sound in
+    let sound = outcome_by c.method_of-method.result problem c.limits_of-limits.result.effort.budget c.in_ok-found.found.answer c.in_ok-found.ensures.answer in
+    let fits = pair_fits c.method_of-method.result problem c.limits_of-limits.result.effort.budget c.in_ok-found.found.answer c.in_ok-found.ensures.answer in
+    let known = figures_of problem c.limits_of-limits.result.effort.budget c.in_ok-found.found.answer sound in
     record {
       held = asked_held c.args.text.now c.args.reading.now c.args.search.now.question (setting asked.circuit) asked.admit c.in_ok-asked.ensures.asked;
       flips = asked_flips c.args.text.now c.args.reading.now c.args.search.now.question (setting asked.circuit) asked.admit c.in_ok-asked.ensures.asked;
@@ -44,15 +44,15 @@ pub returns-in_err-found-clause-refusal : goal.returns-in_err-found-clause-refus
 returns-in_err-found-clause-refusal g c =
     let reported = err_from_is_err_and c.from_residual-in_err-found.result c.from_residual-in_err-found.ensures.1 in
     rw (reported.1, reported.2) (refused c.args.text.now c.args.reading.now c.args.search.now c.in_ok-asked.asked.circuit c.in_ok-asked.asked.admit
-    (tree_of c.method_of-method.result) c.in_ok-asked.ensures.asked _ c.in_err-found.field-0.0 c.effort_of-effort.ensures.timed c.in_err-found.ensures.fault)
+    (tree_of c.method_of-method.result) c.in_ok-asked.ensures.asked c.in_err-found.field-0.0 c.in_err-found.ensures.fault)
 
 pub returns-clause-says : goal.returns-clause-says
 returns-clause-says g c =
     true_without c.args.text.now c.args.reading.now c.args.search.now c.in_ok-outcome.outcome (without c.args.search.now.question c.in_ok-asked.asked.circuit.netlist c.in_ok-asked.asked.keep.items c.in_ok-asked.ensures.keep
     (no_rows c.in_ok-asked.asked.keep.items (sym c.in_ok-asked.asked.keep.ok.0 ∙ eqb-true _ _ (sym c.is_empty.ensures ∙ c.if-not-is_empty.false))))
     (says c.args.text.now c.args.reading.now c.args.search.now c.in_ok-asked.asked.circuit c.in_ok-asked.asked.admit (tree_of c.method_of-method.result)
-    c.in_ok-asked.ensures.asked c.effort_of-effort.result.effort.budget c.in_ok-found.found.answer c.in_ok-outcome.outcome
-    (outcome_by c.method_of-method.result _ c.effort_of-effort.result.effort.budget c.in_ok-found.found.answer c.in_ok-found.ensures.answer)
+    c.in_ok-asked.ensures.asked c.was_asked.result c.limits_of-limits.result.effort.budget c.in_ok-found.found.answer c.in_ok-outcome.outcome
+    (outcome_by c.method_of-method.result _ c.limits_of-limits.result.effort.budget c.in_ok-found.found.answer c.in_ok-found.ensures.answer)
     c.in_ok-outcome.ensures.report c.in_ok-outcome.ensures.status c.in_ok-outcome.ensures.dumped)
 
 pub returns-clause-certified : goal.returns-clause-certified
@@ -62,8 +62,8 @@ returns-clause-certified g c =
     (certified c.args.text.now c.args.reading.now c.args.search.now c.in_ok-asked.asked.circuit c.in_ok-asked.asked.admit (tree_of c.method_of-method.result)
     c.in_ok-asked.ensures.asked (told_with c.args.reading.now.default c.in_ok-asked.asked.outputs c.in_ok-asked.asked.keep) refl
     (no_rows c.in_ok-asked.asked.keep.items (sym c.in_ok-asked.asked.keep.ok.0 ∙ eqb-true _ _ (sym c.is_empty.ensures ∙ c.if-not-is_empty.false)))
-    c.in_ok-asked.ensures.outputs c.effort_of-effort.result.effort.budget c.in_ok-found.found.answer c.in_ok-outcome.outcome
-    (outcome_by c.method_of-method.result _ c.effort_of-effort.result.effort.budget c.in_ok-found.found.answer c.in_ok-found.ensures.answer)
+    c.in_ok-asked.ensures.outputs c.was_asked.result c.limits_of-limits.result.effort.budget c.in_ok-found.found.answer c.in_ok-outcome.outcome
+    (outcome_by c.method_of-method.result _ c.limits_of-limits.result.effort.budget c.in_ok-found.found.answer c.in_ok-found.ensures.answer)
     c.in_ok-found.ensures.text c.in_ok-outcome.ensures.report
     (rw c.strategy.ensures at c.in_ok-outcome.ensures.certified))
 
@@ -74,8 +74,8 @@ returns-clause-written g c =
     (certified c.args.text.now c.args.reading.now c.args.search.now c.in_ok-asked.asked.circuit c.in_ok-asked.asked.admit (tree_of c.method_of-method.result)
     c.in_ok-asked.ensures.asked (told_with c.args.reading.now.default c.in_ok-asked.asked.outputs c.in_ok-asked.asked.keep) refl
     (no_rows c.in_ok-asked.asked.keep.items (sym c.in_ok-asked.asked.keep.ok.0 ∙ eqb-true _ _ (sym c.is_empty.ensures ∙ c.if-not-is_empty.false)))
-    c.in_ok-asked.ensures.outputs c.effort_of-effort.result.effort.budget c.in_ok-found.found.answer c.in_ok-outcome.outcome
-    (outcome_by c.method_of-method.result _ c.effort_of-effort.result.effort.budget c.in_ok-found.found.answer c.in_ok-found.ensures.answer)
+    c.in_ok-asked.ensures.outputs c.was_asked.result c.limits_of-limits.result.effort.budget c.in_ok-found.found.answer c.in_ok-outcome.outcome
+    (outcome_by c.method_of-method.result _ c.limits_of-limits.result.effort.budget c.in_ok-found.found.answer c.in_ok-found.ensures.answer)
     c.in_ok-found.ensures.text c.in_ok-outcome.ensures.report
     (rw c.strategy.ensures at c.in_ok-outcome.ensures.certified)) c.in_ok-outcome.ensures.dumped
 

@@ -9,3 +9,6 @@ returns-in_err-strategy c = rw c.from_residual-in_err-strategy.ensures (only_par
 
 pub returns-in_err-parts : goal.returns-in_err-parts
 returns-in_err-parts c = rw c.from_residual-in_err-parts.ensures (only_parts (λ asked has. c.in_err-parts.ensures asked.count.parts (has.count, asked.count.some, asked.count.few)))
+
+pub returns-in_err-required : goal.returns-in_err-required
+returns-in_err-required c = rw c.from_residual-in_err-required.ensures (only_parts (λ asked has. c.in_err-required.ensures _ has.required))

@@ -5,7 +5,7 @@ use Rattle.std.proofs.lemmas.Result.{err_from_is_err_and}
 use Rattle.td_domain.specs.Admits.{Admitted}
 use Rattle.td_certificate.specs.declared.certificate.Certificate.{Certificate}
 use Rattle.td_join.specs.Faults.{IsInside}
-use Rattle.td_join.specs.Joining.{pins_of, AreJoined, IsNotLater}
+use Rattle.td_join.specs.Joining.{pins_of, AreJoined, IsWholeClaim}
 use Rattle.td_join.specs.Stacks.{IsTreeFault}
 use Rattle.td_join.proofs.Acceptance.{joined_is_tree, accepted_together}
 use Rattle.td_join.specs.Joining.{has_none}
@@ -31,12 +31,9 @@ pub returns-clause-joined : goal.returns-clause-joined
 returns-clause-joined c =
     let joined = subst (λ (cs : List Certificate). AreJoined c.args.question.admit c.args.question.admit.pins cs c.in_ok-nodes.nodes.items) c.in_ok-parts.ensures.all
     (subst (λ (a : Admitted). AreJoined a a.pins (certificates_of c.in_ok-parts.parts.items) c.in_ok-nodes.nodes.items) c.admit-admit.ensures c.in_ok-nodes.ensures.tree) in
-    let within = subst (λ (cs : List Certificate). c.greatest.result < length cs) c.deref-2.ensures.value c.greatest.ensures.within in
-    let stands = slice_get_read c.args.certificates.items (length c.args.certificates.items) c.greatest.result c.index-first.result.now refl within c.index-first.ensures in
-    let most = subst (λ (cs : List Certificate). (worst : Certificate) → slice_get cs c.greatest.result ≡ Some worst → All (λ d. IsNotLater d.claim worst.claim) cs)
-    c.deref-2.ensures.value c.greatest.ensures.greatest in
-    is_joined c.args.certificates.items c.args.gates c.args.question c.index-first.result.now c.greatest.result c.in_ok-claim.claim c.in_ok-nodes.nodes.items
-    c.from_nodes.result stands c.requires.alike (most c.index-first.result.now stands) c.in_ok-claim.ensures c.from_nodes.ensures joined c.requires.terms c.requires.told c.requires.closed
+    let claimed = subst (λ (cs : List Certificate). IsWholeClaim cs c.in_ok-claim.claim) c.deref-2.ensures.value c.in_ok-claim.ensures in
+    is_joined c.args.certificates.items c.args.gates c.args.question c.in_ok-claim.claim c.in_ok-nodes.nodes.items
+    c.from_nodes.result c.requires.alike claimed c.from_nodes.ensures joined c.requires.terms c.requires.told
 
 pub returns-clause-accepted : goal.returns-clause-accepted
 returns-clause-accepted c netlist all =

@@ -14,4 +14,4 @@ pub returns-in_err-terms-clause-fault : goal.returns-in_err-terms-clause-fault
 returns-in_err-terms-clause-fault c =
     let reported = err_from_is_err_and c.from_residual-in_err-terms.result c.from_residual-in_err-terms.ensures.1 in
     rw (reported.1, reported.2)
-    (subst (λ (cs : List Certificate). IsJoinFault cs c.args.pins.now c.in_err-terms.field-0.0) c.deref-4.ensures.value (c.in_err-terms.ensures.fault c.args.pins.now))
+    (subst (λ (cs : List Certificate). IsJoinFault cs c.args.pins.now c.in_err-terms.field-0.0) c.deref-3.ensures.value (c.in_err-terms.ensures.fault c.args.pins.now))

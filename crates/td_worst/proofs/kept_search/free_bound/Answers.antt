@@ -1,4 +1,4 @@
-use Rattle.std.proofs.Common.{◌≡◌, ap, arith}
+use Rattle.std.proofs.Common.{ap, arith}
 use Rattle.std.specs.Prelude.{Some}
 use Rattle.td_search.specs.declared.strategy.Strategy.TheVariants.{Least}
 use Rattle.td_search.proofs.Bounded.{above_bound}

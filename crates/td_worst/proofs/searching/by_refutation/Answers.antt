@@ -6,9 +6,9 @@ use Rattle.td_worst.proofs.searching.by_refutation.Goals as goal
 
 pub returns-then-not-is_open-clause-time : goal.returns-then-not-is_open-clause-time
 returns-then-not-is_open-clause-time g c =
-    rw c.of-then-not-is_open.ensures.answer (c.bounded_by_edges-known.ensures.time c.args.limits.stop.now.can_be_set (rw c.with_nodes-none.ensures.stop at c.in_ok-known.ensures.time))
+    rw c.of-then-not-is_open.ensures.answer (c.bounded_by_edges-known.ensures.time c.args.limits.stop.now.can_be_set (rw c.with_nodes-none.ensures.stop at c.in_ok-begun.ensures.time))
 
 pub returns-clause-edges : goal.returns-clause-edges
 returns-clause-edges g c = λ some.
-    stays_within (problem_by Lead c.args.question.circuit.now c.args.question.admit.now) c.bounded_by_edges-known.result c.refuted_further.result.answer c.bounded_by_edges-known.ensures.edges
-    (sym c.is_open.ensures ∙ c.if-not-is_open.false) c.refuted_further.ensures.narrower.high
+    stays_within (problem_by Lead c.args.question.circuit.now c.args.question.admit.now) c.bounded_by_edges-known.result c.refuted_further-shown.result.answer c.bounded_by_edges-known.ensures.edges
+    (sym c.is_open.ensures ∙ c.if-not-is_open.false) c.refuted_further-shown.ensures.narrower.high

@@ -7,7 +7,7 @@ use Rattle.td_worst.proofs.searching.further.Goals as goal
 pub refuted_further-shown-requires-clause-known : goal.refuted_further-shown-requires-clause-known
 refuted_further-shown-requires-clause-known g c = λ κs lives.
     let asked = problem_by Least c.args.question.circuit.now c.args.question.admit.now in
-    more_budget asked _ (c.args.nodes + c.nodes_of-more.result) c.led_further-led.result
+    more_budget asked _ (c.args.nodes + c.nodes_of-more.result) c.led_further-led.result.answer
     (omega (arith, c.with_nodes-second.ensures.budget))
     (c.led_further-led.ensures.answer _ c.refuted_further-soon.ensures.answer c.refuted_further-soon.ensures.text).0
 
@@ -24,7 +24,7 @@ returns-then-not-is_open-clause-answer g c =
 pub returns-then-is_answered-2-clause-answer : goal.returns-then-is_answered-2-clause-answer
 returns-then-is_answered-2-clause-answer g c =
     let asked = problem_by Least c.args.question.circuit.now c.args.question.admit.now in
-    more_budget asked _ (c.args.nodes + c.args.limits.effort.budget) c.led_further-led.result
+    more_budget asked _ (c.args.nodes + c.args.limits.effort.budget) c.led_further-led.result.answer
     (omega (arith, c.nodes_of-more.ensures.few, c.with_nodes-second.ensures.budget))
     (c.led_further-led.ensures.answer _ c.refuted_further-soon.ensures.answer c.refuted_further-soon.ensures.text).0
 
@@ -41,7 +41,7 @@ returns-then-is_exact-clause-answer g c =
 pub returns-clause-answer : goal.returns-clause-answer
 returns-clause-answer g c =
     let asked = problem_by Least c.args.question.circuit.now c.args.question.admit.now in
-    more_budget asked _ (c.args.nodes + c.args.limits.effort.budget) c.led_further-ended.result
+    more_budget asked _ (c.args.nodes + c.args.limits.effort.budget) c.led_further-ended.result.answer
     (omega (arith, c.nodes_of-more.ensures.few, c.nodes_of-most.ensures.few, c.with_nodes-last.ensures.budget))
     (c.led_further-ended.ensures.answer _ c.refuted_further-shown.ensures.answer c.refuted_further-shown.ensures.text).0
 

@@ -1,0 +1,179 @@
+What ends a search before it is done: a file, by `--stop`, and the clock, by `--seconds`.
+
+  $ touch there
+  $ tdelay worst $NETLISTS/adder_8.v --stop there
+  unit 1 ns
+  defaulted 0
+  between 10 45
+  cause stop
+  from 00000000000000000
+  to 11111111111111111
+  nodes 0
+  [3]
+  $ tdelay worst $NETLISTS/adder_8.v --stop there --json
+  {"proved":true,"unit":"1 ns","defaulted":0,"between":[10,45],"cause":"stop","from":"00000000000000000","to":"11111111111111111","nodes":0}
+  [3]
+  $ tdelay worst $NETLISTS/adder_8.v --stop there --hints
+  unit 1 ns
+  defaulted 0
+  between 10 45
+  cause stop
+  from 00000000000000000
+  to 11111111111111111
+  nodes 0
+  the file of --stop ended the search; both figures are true
+  [3]
+
+Both figures have a certificate.
+
+  $ tdelay worst $NETLISTS/adder_8.v --stop there --cert open.cert --cert-between > said; echo $?
+  3
+  $ tdelay check $NETLISTS/adder_8.v open.cert
+  accepted between 10 45
+  $ tdelay worst $NETLISTS/adder_8.v --stop there --cert none.cert > said; ls none.cert
+  ls: cannot access 'none.cert': No such file or directory
+  [2]
+
+A folder is there too. Each strategy ends, with any number of workers.
+
+  $ for way in least lead refute auto; do tdelay worst $NETLISTS/adder_8.v --stop . --strategy $way -j 3 | grep cause; done
+  cause stop
+  cause stop
+  cause stop
+  cause stop
+
+A file that isn't there ends nothing, and isn't made.
+
+  $ tdelay worst $NETLISTS/adder_8.v > without; echo $?
+  0
+  $ tdelay worst $NETLISTS/adder_8.v --stop absent > with; echo $?
+  0
+  $ cmp without with; ls absent
+  ls: cannot access 'absent': No such file or directory
+  [2]
+
+It may come later.
+
+  $ (sleep 1; touch later) & tdelay worst $NETLISTS/mult_8.v --strategy least --budget 10000000 --stop later > said; echo $?
+  3
+  $ cut -d ' ' -f 1 said | head -4; grep cause said
+  unit
+  defaulted
+  between
+  cause
+  cause stop
+
+What comes first ends the search; where both were there before, the file.
+
+  $ tdelay worst $NETLISTS/adder_8.v --stop there --seconds 0 | grep cause
+  cause stop
+  $ tdelay worst $NETLISTS/adder_8.v --stop absent --seconds 0 | grep cause
+  cause time
+  $ tdelay worst $NETLISTS/adder_8.v --stop there --seconds 1000 | grep cause
+  cause stop
+  $ tdelay worst $NETLISTS/adder_8.v --stop there --budget 0 | grep cause
+  cause budget
+
+A moment may be met or violated all the same.
+
+  $ tdelay worst $NETLISTS/adder_8.v --stop there --required 1000
+  unit 1 ns
+  defaulted 0
+  between 10 45
+  cause required
+  from 00000000000000000
+  to 11111111111111111
+  nodes 0
+  required 1000 met
+  $ tdelay worst $NETLISTS/adder_8.v --stop there --required 1
+  unit 1 ns
+  defaulted 0
+  between 10 45
+  cause required
+  from 00000000000000000
+  to 11111111111111111
+  nodes 0
+  required 1 violated
+  [6]
+
+A table ends, too. What is open has two figures, or none and a bound.
+
+  $ tdelay worst $NETLISTS/c17.v --each --stop there
+  unit 1 ns
+  defaulted 6
+  each N22 between 2 3 edges 3
+  each N23 exact 3 edges 3
+  [3]
+  $ tdelay worst $NETLISTS/c17.v --each --seconds 0
+  unit 1 ns
+  defaulted 6
+  each N22 between 2 3 edges 3
+  each N23 exact 3 edges 3
+  [3]
+  $ tdelay worst $NETLISTS/c17.v --each --changes --figures --stop there
+  unit 1 ns
+  defaulted 6
+  each N22 between 2 3 edges 3 rise none..3 fall none..3 glitch none..3
+  each N23 exact 3 edges 3 rise none..3 fall none..3 glitch none..3
+  [3]
+  $ tdelay worst $NETLISTS/c17.v --each --stop absent
+  unit 1 ns
+  defaulted 6
+  each N22 exact 3 edges 3
+  each N23 exact 3 edges 3
+  $ tdelay worst $NETLISTS/c17.v --hazards --stop there
+  unit 1 ns
+  defaulted 6
+  hazard N22 0 open
+  hazard N22 1 open
+  hazard N23 0 open
+  hazard N23 1 open
+  [3]
+  $ tdelay worst $NETLISTS/c17.v --hazards --seconds 0
+  unit 1 ns
+  defaulted 6
+  hazard N22 0 open
+  hazard N22 1 open
+  hazard N23 0 open
+  hazard N23 1 open
+  [3]
+  $ tdelay worst $NETLISTS/c17.v --hazards --stop absent
+  unit 1 ns
+  defaulted 6
+  hazard N22 0 can 10010 01111
+  hazard N22 1 can 10110 11001
+  hazard N23 0 can 00000 11111
+  hazard N23 1 never
+  $ tdelay worst $NETLISTS/c17.v --hazards --stop there --hints 2>&1 > said
+  the search for some output ended before it was done: 1000000 nodes are the budget of each, unless memory, time or --stop ended it; all figures are true
+    help: a greater --budget, at most 10000000
+    help: --workers N, as many as the machine has processors
+    help: or fewer pairs: --first, --second, --hold, --flips; or `tdelay parts`
+  [3]
+
+With conditions.
+
+  $ tdelay worst $NETLISTS/c17.v --keep N22=01 --stop there
+  unit 1 ns
+  defaulted 6
+  between none 3
+  cause stop
+  [3]
+  $ tdelay worst $NETLISTS/c17.v --keep N22=01 --seconds 0
+  unit 1 ns
+  defaulted 6
+  between none 3
+  cause time
+  [3]
+
+The file is neither read nor written, so it may be one of the others. Only `worst` has the option.
+
+  $ cp $NETLISTS/adder_8.v adder.v
+  $ tdelay worst adder.v --stop adder.v | grep cause
+  cause stop
+  $ tdelay parts $NETLISTS/c17.v --parts 2 --stop there 2>&1 | head -1
+  error: unexpected argument '--stop' found
+  $ tdelay worst $NETLISTS/c17.v --stop 2>&1 | head -1
+  error: a value is required for '--stop <FILE>' but none was supplied
+  $ tdelay worst $NETLISTS/c17.v --stop there --stop there 2>&1 | head -1
+  error: the argument '--stop <FILE>' cannot be used multiple times

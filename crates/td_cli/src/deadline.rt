@@ -1,0 +1,59 @@
+//! What ends a run before it is done.
+
+use crate::advice::Advice;
+use td_request::{Command, Request};
+use td_stop::{Signal, Stop};
+
+/// What ends a run before it is done: that these seconds have passed, or that a file of this name
+/// is there.
+#[derive(Drop)]
+pub(crate) struct Deadline<'a, 'w, A> {
+    pub(crate) seconds: Option<u32>,
+    file: Option<&'w str>,
+    advice: &'a A,
+}
+
+impl<'a, 'w, A: Advice> Deadline<'a, 'w, A> {
+    /// What ends the run of a request, if something does.
+    pub(crate) fn of(request: &Request<'w>, advice: &'a A) -> Option<Self> {
+        let Command::Worst(search) = &request.command else {
+            return None;
+        };
+        if search.effort.seconds.is_none() && search.stop.is_none() {
+            return None;
+        }
+        Some(Deadline {
+            seconds: seconds_of(search.effort.seconds),
+            file: search.stop,
+            advice,
+        })
+    }
+
+    /// The stop of the run, set where the run ends before it begins.
+    pub(crate) fn stop(&self) -> Stop {
+        let stop = Stop::new();
+        if self.is_given() {
+            stop.ask();
+        } else if self.seconds == Some(0) {
+            stop.set();
+        }
+        stop
+    }
+}
+
+/// The seconds after which a run ends, if it is to end so: 136 years where more are given.
+fn seconds_of(given: Option<u64>) -> Option<u32> {
+    match given {
+        Some(seconds) => Some(u32::try_from(seconds).unwrap_or(u32::MAX)),
+        None => None,
+    }
+}
+
+impl<'a, 'w, A: Advice> Signal for Deadline<'a, 'w, A> {
+    fn is_given(&self) -> bool {
+        match self.file {
+            Some(name) => self.advice.is_there(name),
+            None => false,
+        }
+    }
+}

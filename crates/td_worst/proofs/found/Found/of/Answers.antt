@@ -1,0 +1,4 @@
+use Rattle.td_worst.proofs.found.Found.of.Goals as goal
+
+pub returns-clause-support : goal.returns-clause-support
+returns-clause-support c = λ given admit is. record { steps = tt; tree = is }
