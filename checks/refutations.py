@@ -424,7 +424,7 @@ def shares(tested, _cut):
 # Of 100 cases at least this share is of a kind.
 SHARES = {
     "accepted": 0.1,
-    "accepted, spans alone": 0.02,
+    "accepted, spans alone": 0.01,
     "accepted, mixed leaves": 0.005,
     "accepted, changed": 0.02,
     "accepted, of a search": 0.01,
