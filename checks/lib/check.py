@@ -30,6 +30,10 @@ SKIPPED = 77
 MOST_WRONG = 20
 
 
+class Terminated(Exception):
+    """The check is ended before it tried all cases: its last line says what it has found."""
+
+
 class Enough(Exception):
     """As many cases were tried as were asked for, or enough wrong ones that more say nothing."""
 
@@ -111,6 +115,9 @@ def tried(check, work, shares):
     except running.Hangs as hangs:
         check.wrong += 1
         print(f"wrong: {hangs}", flush=True)
+    except Terminated:
+        print("ended early, by SIGTERM", flush=True)
+        return 1
     except Exception:  # pylint: disable=broad-except
         check.wrong += 1
         print(f"wrong: the check can't go on\n{traceback.format_exc()}", flush=True)
@@ -120,6 +127,11 @@ def tried(check, work, shares):
     if not check.wrong:
         shares(check, cut)
     return 1 if check.wrong else 0
+
+
+def terminated(_signal, _frame):
+    """What SIGTERM does."""
+    raise Terminated
 
 
 def call(doc, cases, options):
@@ -164,7 +176,7 @@ def main(work, doc, cases=None, shares=nothing_more, options=None, needs=()):
     if not os.access(program, os.X_OK) or os.path.isdir(program):
         print(f"wrong: {program} is no program; `rt ci` builds one, ./prove another one")
         return 1
-    signal.signal(signal.SIGTERM, lambda *_: sys.exit(1))
+    signal.signal(signal.SIGTERM, terminated)
     lacking = [name for name in needs if not shutil.which(name)]
     if lacking:
         print(f"skipped: {' and '.join(lacking)} must be there for this check")
