@@ -36,8 +36,8 @@ CORE = set(
     "td_checker td_join td_incumbent td_book td_search td_pool td_parts td_worst".split()
 )
 SEARCH = ("td_worst", "worst")
-# A call of a function, by its crate where that stands before it.
-CALL = re.compile(r"(?:(td_\w+)::)?(?<![\w.])(\w+)(?:::<[^(]*>)?\(")
+# A call of a function, by its crate where that stands before it, or of a method.
+CALL = re.compile(r"(?:(td_\w+)::)?(?<!\w)(\w+)(?:::<[^(]*>)?\(")
 
 
 def crate_files(crate, part):
