@@ -65,8 +65,8 @@ class Runs:
 def leaves_of(circuit, certificate, until):
     """The cube and the lines of each leaf by spans before a line of the text, all where it is 0."""
     cubes, lines = [certificate.question.pins], None
-    first = opinion.first_line(certificate)
-    for line in certificate.tree[: until - first if until else None]:
+    lines_before = max(until - opinion.first_line(certificate), 0) if until else None
+    for line in certificate.tree[:lines_before]:
         if lines is None:
             cube = cubes.pop()
             if line.letter == "s":
