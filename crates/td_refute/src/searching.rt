@@ -34,6 +34,13 @@ const FEW_GATES: u64 = 20_000;
 // How many where pairs keep conditions: most moves break one, and models are near late pairs.
 const KEPT_GATES: u64 = 100_000;
 
+// The work of the first question where a pair is enough that is later than a required moment above
+// 0: that question stays the same, so it is split soon, and a sweep helps little.
+const REQUIRED_EFFORT: u64 = 64_000;
+
+// The work after which such a question is split.
+const REQUIRED_SPLIT: u64 = 3_000;
+
 // How much the search does.
 fn limits_of(known: u64, keeps: bool, effort: Effort<'_>) -> Limits {
     let mut limits = Limits {
@@ -50,6 +57,10 @@ fn limits_of(known: u64, keeps: bool, effort: Effort<'_>) -> Limits {
         limits.enough = required;
         if required == 0 {
             limits.climb = FEW_GATES;
+        } else {
+            limits.effort = REQUIRED_EFFORT;
+            limits.split = REQUIRED_SPLIT;
+            limits.sweeps_from = u64::MAX;
         }
     }
     limits
