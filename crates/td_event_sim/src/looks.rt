@@ -6,7 +6,7 @@ use td_stop::Stop;
 
 /// How many steps a simulation takes, at least, before it looks at its stop. A simulation of fewer
 /// steps ends with its delay, whatever the stop says.
-const STEPS: u64 = 1 << 20;
+const STEPS: u64 = 1 << 22;
 
 /// How many steps the events of these nets take: one for each net, and one for each gate that reads
 /// it.

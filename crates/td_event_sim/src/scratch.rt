@@ -86,10 +86,9 @@ pub fn delay_of(scratch: &mut Scratch, circuit: &Circuit, pair: &Pair) -> Result
     }
 }
 
-/// As `delay_of`, unless the stop is set meanwhile. A simulation looks at the stop once it has
-/// taken about a million steps, and again after each as many: a step is the event of a net, or one
-/// look at a gate that reads it. So one of fewer steps ends with its delay. After each error the
-/// scratch may be used again.
+/// As `delay_of`, unless the stop is set meanwhile. A simulation looks at the stop after each four
+/// million steps or so: the event of a net is one, and so is each gate that reads it. One of fewer
+/// steps ends with its delay, whatever the stop says. After an error the scratch may be used again.
 pub fn delay_until(
     scratch: &mut Scratch,
     circuit: &Circuit,

@@ -47,7 +47,9 @@ pub fn doubling_text(alloc: Global, levels: u32) -> Result<String, AllocError> {
         )?)?;
         delay /= 2;
     }
-    Ok(format!(in alloc; "module t (x0, x{levels}); input x0; output x{levels};\n{gates}endmodule")?)
+    Ok(format!(in alloc;
+        "module t (x0, x{levels}); input x0; output x{levels};\n{gates}endmodule"
+    )?)
 }
 
 /// A circuit, and all its pairs.

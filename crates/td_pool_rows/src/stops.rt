@@ -69,13 +69,16 @@ impl<'a> Prober for Stopping<'a> {
     }
 }
 
-/// What a search is to end by: a number of workers, and a stop.
-#[derive(Clone, Copy, Drop)]
-struct Ending<'a> {
-    workers: u32,
-    stop: &'a Stop,
-    ghost some: { 0 < workers },
-    ghost few: { workers ≤ 64 },
+/// What lets these workers handle a million nodes, unless the stop is set.
+fn limits_of(workers: u32, stop: &Stop) -> Limits<'_>
+    requires some { 0 < workers }
+    requires few { workers ≤ 64 }
+{
+    let budget = 1_000_000;
+    Limits {
+        effort: Effort { workers, budget },
+        stop,
+    }
 }
 
 /// The lower figure of a search that its stop ended, and how many nodes it handled, where a delay
@@ -86,7 +89,7 @@ fn ended_by_stop<P: Prober + Sync, R: Threads + Wait + Sync + Abort>(
     text: &str,
     strategy: Strategy,
     prober: &P,
-    ending: Ending<'_>,
+    limits: Limits<'_>,
     worst: u64,
 ) -> Result<Option<(u64, u64)>, Fail> {
     let asked = asked_of(rt, alloc, text)?;
@@ -94,13 +97,6 @@ fn ended_by_stop<P: Prober + Sync, R: Threads + Wait + Sync + Abort>(
         circuit: &asked.circuit,
         admit: &asked.admit,
         strategy,
-    };
-    let limits = Limits {
-        effort: Effort {
-            workers: ending.workers,
-            budget: 1_000_000,
-        },
-        stop: ending.stop,
     };
     let Ok(ended) = search(rt, alloc, &problem, prober, limits, &mut Unwatched) else {
         return Err(Fail::from("no answer"));
@@ -130,8 +126,8 @@ fn stopped_after<P: Prober + Sync, R: Threads + Wait + Sync + Abort>(
     requires some { 0 < workers }
     requires few { workers ≤ 64 }
 {
-    let ending = Ending { workers, stop };
-    match ended_by_stop(rt, alloc, WIDE, strategy, prober, ending, WORST)? {
+    let limits = limits_of(workers, stop);
+    match ended_by_stop(rt, alloc, WIDE, strategy, prober, limits, WORST)? {
         Some((_, nodes)) => Ok(Some(nodes)),
         None => Ok(None),
     }
@@ -188,11 +184,8 @@ fn stopped_in_a_simulation(rt: HostRuntime) -> Result<(), Fail> {
     let text = doubling_text(rt.alloc(), LEVELS)?;
     for strategy in [Strategy::Least, Strategy::Lead] {
         for workers in [1, 4] {
-            let ending = Ending {
-                workers,
-                stop: &stop,
-            };
-            let found = ended_by_stop(&rt, rt.alloc(), &text, strategy, &Own, ending, LATE)?;
+            let limits = limits_of(workers, &stop);
+            let found = ended_by_stop(&rt, rt.alloc(), &text, strategy, &Own, limits, LATE)?;
             assert_eq!(&rt; found, Some((0, 0)), "{workers} workers");
         }
     }

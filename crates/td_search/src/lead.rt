@@ -98,7 +98,14 @@ impl Rule for Lead {
         cube: &Cube,
         stop: &Stop,
     ) -> Result<u64, Interruption> {
-        measure(alloc, &mut scratch.events, &mut scratch.pair, problem, cube, stop)
+        measure(
+            alloc,
+            &mut scratch.events,
+            &mut scratch.pair,
+            problem,
+            cube,
+            stop,
+        )
     }
 
     fn strongest(
