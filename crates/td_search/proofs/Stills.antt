@@ -1,5 +1,6 @@
 -- Some of the admitted pairs: those of equal vectors, or all.
 use Rattle.std.proofs.Common.{◌≡◌, Bool, List, refl, sym, subst, arith}
+use Rattle.std.specs.Prelude.{Result, Ok, Err, IfOk}
 use Rattle.td_domain.specs.declared.cubes.Trit.{Trit}
 use Rattle.td_domain.specs.Pairs.{Pair}
 use Rattle.td_domain.specs.Cubes.{IsIn}
@@ -7,9 +8,9 @@ use Rattle.td_domain.specs.Admits.{Admitted, AreHeld, HasAdmitted}
 use Rattle.td_search.specs.Still.{AreAmong}
 
 -- at no input may bits differ
-pub still_among : (admit : Admitted) (pins : List Trit) (held : List Bool) → pins ≡ admit.pins → held ≡ admit.held
-    → HasAdmitted (record { pins = pins; held = held; flips = 0 }) pins → AreAmong admit (record { pins = pins; held = held; flips = 0 })
-still_among admit pins held pins_are held_are any = record {
+pub still_among : (admit still : Admitted) (pins : List Trit) (held : List Bool) → still ≡ record { pins = pins; held = held; flips = 0 }
+    → pins ≡ admit.pins → held ≡ admit.held → (cube : List Trit) → cube ≡ still.pins → HasAdmitted still cube → AreAmong admit still
+still_among admit still pins held e pins_are held_are cube cube_is any = subst (AreAmong admit) (sym e) (record {
   pins = pins_are;
   held = held_are;
   admitted = λ pair is. record {
@@ -17,8 +18,10 @@ still_among admit pins held pins_are held_are any = record {
     held = subst (λ (h : List Bool). AreHeld h pair.first pair.second) held_are is.held;
     few = let few = is.few in omega (arith, few);
   };
-  any = any;
-}
+  any = subst (λ (s : Admitted). HasAdmitted s s.pins) e (subst (HasAdmitted still) cube_is any);
+})
 
-pub all_among : (admit same : Admitted) → same ≡ admit → HasAdmitted admit admit.pins → AreAmong admit same
-all_among admit same e any = subst (AreAmong admit) (sym e) (record { pins = refl; held = refl; admitted = λ pair is. is; any = any })
+pub all_among : (admit : Admitted) {E : Type 0} (r : Result Admitted E) → IfOk r (λ same. same ≡ admit) → HasAdmitted admit admit.pins
+    → IfOk r (AreAmong admit)
+all_among admit (Ok same) e any = subst (AreAmong admit) (sym e) (record { pins = refl; held = refl; admitted = λ pair is. is; any = any })
+all_among admit (Err fault) e any = tt
