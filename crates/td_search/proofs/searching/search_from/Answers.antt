@@ -7,5 +7,5 @@ pub run_from-requires-clause-search : goal.run_from-requires-clause-search
 run_from-requires-clause-search g c = λ κ l. (
   c.begin-search.ensures.search.0,
   c.begin-search.ensures.search.1,
-  λ lead. subst (λ (n : ℕ). IsReachedDelay (problem_of c.args.task.now.problem.now) n) (sym c.begin-search.ensures.best) (c.climb-_climbed.ensures.keeps.1 lead),
+  λ lead. subst (λ (n : ℕ). IsReachedDelay (problem_of c.args.task.now.problem.now) n) (sym c.begin-search.ensures.best) (c.climb-climbed.ensures.keeps.1 lead),
 )
