@@ -1,6 +1,6 @@
 -- What is known of an output before it is searched is true of it alone.
 use Rattle.std.proofs.Common.{◌≡◌, ◌≤◌, ◌<◌, ◌*◌, ℕ, zero, suc, ◌∙◌, Bool, false, true, List, [], ◌∷◌, length, map, max, refl, sym, ap, subst, arith, Option, Some, None}
-use Rattle.std.specs.Prelude.{slice_get, unwrap_or}
+use Rattle.std.specs.Prelude.{slice_get, unwrap_or, IfSome}
 use Rattle.std.proofs.lemmas.Option.{none-some}
 use Rattle.td_gates.specs.Table.{level_from}
 use Rattle.td_gates.specs.Wave.{Wave, last}
@@ -27,10 +27,14 @@ use Rattle.td_edges.specs.declared.signals.Signal.{Signal}
 use Rattle.td_edges.specs.Coverage.{EdgesCover, span_reach}
 use Rattle.td_edges.specs.EdgeSignals.{edge_functions}
 use Rattle.td_edges.specs.EdgeLaws.{covers_input, covers_constant, covers_gate, quiet_after_last}
-use Rattle.td_refutation.specs.Asking.{all_admitted}
+use Rattle.td_refutation.specs.declared.conditions.NamedCondition.{NamedCondition}
+use Rattle.td_refutation.specs.Asking.{Asking, all_admitted}
 use Rattle.td_refutation.proofs.Asking.{nothing_kept}
 use Rattle.td_answer.specs.Outlooks.{IsSample, IsLow, IsTrueLow, IsTrueOutlook}
-use Rattle.td_answer.specs.Tables.{SomeHas}
+use Rattle.td_refute.specs.Kept.{IsBoundAmong}
+use Rattle.td_lines.specs.declared.line.Found.TheVariants as found
+use Rattle.td_answer.specs.Findings.{IsTrueFound}
+use Rattle.td_answer.specs.Tables.{IsTrueBound, SomeHas}
 use Rattle.td_answer.specs.declared.outlook.Outlook.{Outlook}
 
 only : (a : Option ℕ) → a ≡ greater a (Some 0)
@@ -49,6 +53,49 @@ as_long n (p ∷ q ∷ cube) (a ∷ first) [] size allows = absurd allows
 as_long zero (p ∷ q ∷ cube) (a ∷ first) (b ∷ second) size allows = absurd (omega (arith, size))
 as_long (suc n) (p ∷ q ∷ cube) (a ∷ first) (b ∷ second) size allows =
     let rest = as_long n cube first second (omega (arith, size)) allows.2 in (omega (arith, rest.0), omega (arith, rest.1))
+
+-- a bound of the pins is one of all that are asked about
+pub bound_among : (given : Setting) (asking : Asking) (high : ℕ) → IsUpperBoundIn given asking.admit.pins high → IsBoundAmong given asking high
+bound_among given asking high is = λ pair delay among has. is pair delay among.admitted.pinned has
+
+-- what the figures say of the pairs that are asked about
+module _ (given : Setting) (admit : Admitted) (high : ℕ) (bound : IsTrueBound given admit (Some high)) where
+  pub at_most : (keep : List NamedCondition) → IsTrueFound given (record { admit = admit; keep = keep }) (found.AtMost high)
+  at_most keep = bound_among given (record { admit = admit; keep = keep }) high (bound high refl)
+
+  module _ (low : ℕ) (is_low : IsTrueLow given admit (Some low)) where
+    pub exact : high ≤ low → IsTrueFound given (all_admitted admit) (found.Exact low)
+    exact less =
+        let some = is_low low refl in (
+          (some.0, some.1.asked, some.1.delays),
+          λ pair delay among has. (let below = bound high refl pair delay among.admitted.pinned has in omega (arith, below, less)),
+        )
+
+    pub between : low ≤ high → IsTrueFound given (all_admitted admit) (found.Between low high)
+    between less =
+        let some = is_low low refl in
+        record { pair = some.0; has = some.1; greatest = bound_among given (all_admitted admit) high (bound high refl); ordered = less }
+
+-- as many positions as two for each input
+pub pins_long : {n : ℕ} (pins : List Trit) (held : List Bool) → length pins ≡ 2 * length held → length held ≡ n → length pins ≡ 2 * n
+pins_long pins held fit count = omega (arith, fit, count)
+
+-- an admitted pair has a bit for each input
+pub pair_long : (circuit : Numbered) (admit : Admitted) (pair : Pair) → length admit.pins ≡ 2 * length admit.held
+    → length admit.held ≡ length circuit.netlist.inputs → IsAdmitted admit pair
+    → (length pair.first ≡ length circuit.netlist.inputs) × (length pair.second ≡ length circuit.netlist.inputs)
+pair_long circuit admit pair fit held is =
+    as_long (length circuit.netlist.inputs) admit.pins pair.first pair.second (pins_long admit.pins admit.held fit held) is.pinned
+
+-- a run that is there is a sample, and has a wave for each net
+pub sampled : (circuit : Numbered) (admit : Admitted) (run : Option NetWaves) → IfSome run (IsSample circuit admit)
+    → (found : NetWaves) → run ≡ Some found → IsSample circuit admit found
+sampled circuit admit run is found e = rw e at is
+
+pub wave_within : (circuit : Numbered) (admit : Admitted) (run : Option NetWaves) (net : ℕ) → IfSome run (IsSample circuit admit)
+    → net < length (nets circuit) → IfSome run (λ found. net < length found.waves)
+wave_within circuit admit None net is less = tt
+wave_within circuit admit (Some run) net is less = omega (arith, is.whole, less)
 
 module _ (circuit : Numbered) (numbering : IsNumbering circuit) where
   asked_now : CanBeAsked circuit circuit.netlist.outputs circuit.outputs

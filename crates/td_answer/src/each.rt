@@ -1,11 +1,13 @@
 //! The worst delay of each output by itself, as a table.
 
-ghost use Rattle.std.specs.Prelude.{◌≡◌, true, ◌<◌, length, slice_get, Some, IfOk, IfErr, OnOk, None as Nothing};
+ghost use Rattle.std.specs.Prelude.{◌≡◌, ◌⊎◌, true, ◌<◌, length, slice_get, Some, IfOk, IfErr, OnOk, None as Nothing};
 ghost use Rattle.std.specs.List.{AllZip};
 ghost use Rattle.td_nets.specs.Netlist.{Name as Named};
 ghost use Rattle.td_circuit.specs.Numbering.{setting};
 ghost use Rattle.td_source.specs.Each.{alone};
 ghost use Rattle.td_certificate.specs.Accepts.{are_fit};
+ghost use Rattle.td_search.specs.Problems.{Problem};
+ghost use Rattle.td_question.specs.Asking.{IsAsked};
 ghost use Rattle.td_question.specs.Keeping.{count_nets};
 ghost use Rattle.td_answer.specs.Additions.{AddsLines};
 ghost use Rattle.td_answer.specs.Searches.{IsRefusedSearch};
@@ -24,6 +26,7 @@ use crate::outlook::{Outlook, outlooks, unsearched};
 use crate::refusal::Refusal;
 use crate::requirement::requirement_of;
 use crate::status::Status;
+use crate::watch::{Begun, TableWatch};
 use crate::worst::{limits_of, method_of};
 use std::alloc::{AllocError, Global};
 use std::sync::Wait;
@@ -144,13 +147,30 @@ fn row_of<'n, 'w, R: Threads + Wait + Sync>(
     })
 }
 
+/// Tells a watch that the row of the output at this place is begun, unless memory runs out.
+fn tell<W: TableWatch>(alloc: Global, outputs: &EachOutput, place: usize, watch: &mut W)
+    requires { place < length outputs.now.whole.netlist.outputs }
+    ensures { (asked : Problem) → W.reported asked watch.old watch.new }
+{
+    let names = outputs.names();
+    let Ok(output) = label(alloc, &names[place]) else {
+        return;
+    };
+    watch.begun(Begun {
+        output: output.text(),
+        done: place as u64,
+        rows: names.len() as u64,
+    });
+}
+
 /// A row for each output, in order.
-fn rows<'n, 'w, R: Threads + Wait + Sync>(
+fn rows<'n, 'w, W: TableWatch, R: Threads + Wait + Sync>(
     rt: &R,
     alloc: Global,
     outputs: &mut EachOutput,
     outlooks: &[Outlook],
     inquiry: Inquiry<'_, 'w>,
+    watch: &mut W,
 ) -> Result<Vec<Row>, Refusal<'n, 'w>>
     requires held { length inquiry.admit.now.held ≡ length outputs.old.whole.netlist.inputs }
     requires fit { are_fit (count_nets outputs.old.whole.netlist) inquiry.keep.now ≡ true }
@@ -159,10 +179,12 @@ fn rows<'n, 'w, R: Threads + Wait + Sync>(
     ensures rows { IfOk result (λ rows. AllZip (IsTrueRow (setting outputs.old.whole) (pairs_of inquiry.entry) inquiry.entry.search.now)
         outputs.old.whole.netlist.outputs rows.items) }
     ensures refusal { IfErr result (IsUnanswered inquiry.entry.admit.now) }
+    ensures reported { (asked : Problem) → W.reported asked watch.old watch.new }
 {
     let count = outputs.names().len();
     let mut rows = Vec::new(alloc);
     for place in 0..count {
+        tell(alloc, outputs, place, watch);
         let row = row_of(rt, alloc, outputs, place, outlooks[place], inquiry)?;
         rows.push(row)?;
     }
@@ -253,18 +275,21 @@ fn push_rows(report: &mut Report, rows: Vec<Row>) -> Result<(), AllocError>
 }
 
 /// The table of what a request asks of a text: a row for each output, which is asked about alone.
-pub(crate) fn table<'n, 'w, R: Threads + Wait + Sync>(
+pub(crate) fn table<'n, 'w, W: TableWatch, R: Threads + Wait + Sync>(
     rt: &R,
     alloc: Global,
     text: &'n [u8],
     reading: &Reading<'_>,
     search: &Search<'w>,
     stop: &Stop,
+    watch: &mut W,
 ) -> Result<Outcome, Refusal<'n, 'w>>
     ensures says { IfOk result (IsTrueTable text.now reading.now search.now) }
     ensures certified { IfOk result (λ outcome. outcome.certificate ≡ Nothing) }
     ensures written { IfOk result CanBeWritten }
     ensures refusal { IfErr result (IsRefusedSearch text.now reading.now search.now) }
+    ensures reported { (watch.new ≡ watch.old)
+        ⊎ ((asked : Problem) × IsAsked text.now reading.now search.now.question asked.setting asked.admit × W.reported asked watch.old watch.new) }
 {
     let Asked {
         circuit,
@@ -281,7 +306,7 @@ pub(crate) fn table<'n, 'w, R: Threads + Wait + Sync>(
         search,
         limits: limits_of(&search.effort, stop),
     };
-    let rows = rows(rt, alloc, &mut outputs, &outlooks, inquiry)?;
+    let rows = rows(rt, alloc, &mut outputs, &outlooks, inquiry, watch)?;
     let status = ending(asks_figures(search.table), &rows);
     push_rows(&mut report, rows)?;
     Ok(Outcome {

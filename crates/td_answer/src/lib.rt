@@ -43,6 +43,7 @@ mod sim;
 mod status;
 mod texts;
 mod unjoined;
+mod watch;
 mod words;
 mod worst;
 
@@ -52,3 +53,4 @@ pub use outcome::{Outcome, Waves};
 pub use refusal::Refusal;
 pub use status::Status;
 pub use texts::Texts;
+pub use watch::{Begun, TableWatch};

@@ -8,6 +8,8 @@ ghost use Rattle.td_circuit.specs.Numbering.{Numbered, setting};
 ghost use Rattle.td_domain.specs.Pairs.{Pair};
 ghost use Rattle.td_domain.specs.Admits.{Admitted, IsAdmitted};
 ghost use Rattle.td_source.specs.Each.{alone};
+ghost use Rattle.td_refutation.specs.Asking.{all_admitted};
+ghost use Rattle.td_lines.specs.declared.line.Found.{Found as FoundModel};
 ghost use Rattle.td_answer.specs.Columns.{pairs_of};
 ghost use Rattle.td_answer.specs.Findings.{IsTrueFound};
 ghost use Rattle.td_answer.specs.Outlooks.{IsSample, IsLow, IsTrueLow, IsTrueOutlook};
@@ -51,6 +53,17 @@ impl Outlook {
     }
 }
 
+/// What an admitted pair and a bound say.
+fn closer(low: u64, high: u64) -> Found
+    ensures { (given : Setting) (admit : Admitted) → IsTrueBound given admit (Some high) → IsTrueLow given admit (Some low)
+        → IsTrueFound given (all_admitted admit) result }
+{
+    if high <= low {
+        return Found::Exact(low);
+    }
+    Found::Between { low, high }
+}
+
 /// What these figures say of the pairs that are asked about.
 fn figure(keep: &[NamedCondition], low: Option<u64>, high: u64) -> Found
     ensures { (given : Setting) (admit : Admitted) → IsTrueBound given admit (Some high) → IsTrueLow given admit low
@@ -61,13 +74,7 @@ fn figure(keep: &[NamedCondition], low: Option<u64>, high: u64) -> Found
     }
     match low {
         None => Found::AtMost(high),
-        Some(low) => {
-            if high <= low {
-                Found::Exact(low)
-            } else {
-                Found::Between { low, high }
-            }
-        }
+        Some(low) => closer(low, high),
     }
 }
 
@@ -79,20 +86,30 @@ fn ends_so(search: &Search<'_>, found: Found) -> bool {
     }
 }
 
-/// What is found of an output that isn't searched: its search would find the same, or the stop is
-/// set.
-pub(crate) fn unsearched(outlook: Outlook, inquiry: Inquiry<'_, '_>) -> Option<Found>
-    ensures { (given : Setting) (found : Found) → IsTrueOutlook given inquiry.entry.admit.now outlook → result ≡ Some found
-        → IsTrueFound given (pairs_of inquiry.entry) found }
+/// A figure, where the output isn't searched: its search would end so, or the stop is set.
+fn chosen(found: Found, is_set: bool, ends: bool) -> Option<Found>
+    ensures { (other : FoundModel) → result ≡ Some other → other ≡ found }
 {
-    let Some(high) = outlook.edges else {
-        return None;
-    };
-    let found = figure(inquiry.keep, outlook.low, high);
-    if inquiry.limits.stop.is_set() || ends_so(inquiry.search, found) {
+    if is_set || ends {
         return Some(found);
     }
     None
+}
+
+/// What is found of an output that isn't searched.
+pub(crate) fn unsearched(outlook: Outlook, inquiry: Inquiry<'_, '_>) -> Option<Found>
+    ensures { (given : Setting) (found : FoundModel) → IsTrueOutlook given inquiry.entry.admit.now outlook → result ≡ Some found
+        → IsTrueFound given (pairs_of inquiry.entry) found }
+{
+    match outlook.edges {
+        None => None,
+        Some(high) => {
+            let found = figure(inquiry.keep, outlook.low, high);
+            let is_set = inquiry.limits.stop.is_set();
+            let ends = ends_so(inquiry.search, found);
+            chosen(found, is_set, ends)
+        }
+    }
 }
 
 /// When the output with this net changes last in a run, if there is one: 0 where it never does.

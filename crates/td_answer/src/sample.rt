@@ -81,6 +81,8 @@ pub(crate) fn sample(
     requires { length admit.now.held ≡ length circuit.now.netlist.inputs }
     ensures { IfOk result (λ run. IfSome run (IsSample circuit.now admit.now)) }
 {
+    // For the prover: the pins have two positions for each input.
+    let _pins = admit.pins();
     match sample_pair(alloc, circuit, admit)? {
         Some(pair) => {
             let run = run_of(alloc, circuit, &pair)?;
