@@ -2,9 +2,8 @@
 
 ghost use Rattle.std.specs.Prelude.{◌≡◌, ◌<◌, ℕ, true, length, Some, IfOk, IfErr, IfSome};
 ghost use Rattle.std.specs.List.{AllZip};
-ghost use Rattle.td_gates.specs.Wave.{Wave};
 ghost use Rattle.td_circuit.specs.Settings.{Setting};
-ghost use Rattle.td_circuit.specs.Numbering.{Numbered, setting};
+ghost use Rattle.td_circuit.specs.Numbering.{setting};
 ghost use Rattle.td_domain.specs.Pairs.{Pair};
 ghost use Rattle.td_domain.specs.Admits.{Admitted, IsAdmitted};
 ghost use Rattle.td_source.specs.Each.{alone};
@@ -12,7 +11,7 @@ ghost use Rattle.td_refutation.specs.Asking.{all_admitted};
 ghost use Rattle.td_lines.specs.declared.line.Found.{Found as FoundModel};
 ghost use Rattle.td_answer.specs.Columns.{pairs_of};
 ghost use Rattle.td_answer.specs.Findings.{IsTrueFound};
-ghost use Rattle.td_answer.specs.Outlooks.{IsSample, IsLow, IsTrueLow, IsTrueOutlook};
+ghost use Rattle.td_answer.specs.Outlooks.{IsLow, IsOutlookAt, IsTrueLow, IsTrueOutlook};
 ghost use Rattle.td_answer.specs.Tables.{IsTrueBound, IsUnanswered};
 
 use crate::alone::Inquiry;
@@ -22,7 +21,7 @@ use crate::sample::sample;
 use std::alloc::{AllocError, Global};
 use td_circuit::Circuit;
 use td_domain::{Admit, Domain, signals};
-use td_edges::Edges;
+use td_edges::{Edges, Signal};
 use td_lines::Found;
 use td_refutation::NamedCondition;
 use td_request::{Search, Strategy};
@@ -123,6 +122,18 @@ fn low_in(run: &Option<Run>, net: u32) -> Option<u64>
     }
 }
 
+/// What is known of the output with this net, by the signals of edges and a run, if there is one.
+fn outlook_at(signals: &[Signal], run: &Option<Run>, net: u32) -> Outlook
+    requires net { net < length signals.now }
+    requires run { IfSome run.now (λ run. net < length run.waves) }
+    ensures { IsOutlookAt signals.now run.now net result }
+{
+    Outlook {
+        edges: Edges::last(&signals[net as usize]),
+        low: low_in(run, net),
+    }
+}
+
 /// What is known of each output, in order, by one evaluation of edges and one run.
 fn known(alloc: Global, circuit: &Circuit, admit: &Admit) -> Result<Vec<Outlook>, AllocError>
     requires { length admit.now.held ≡ length circuit.now.netlist.inputs }
@@ -133,9 +144,8 @@ fn known(alloc: Global, circuit: &Circuit, admit: &Admit) -> Result<Vec<Outlook>
     let run = sample(alloc, circuit, admit)?;
     let mut outlooks = Vec::new(alloc);
     for net in circuit.outputs() {
-        let edges = Edges::last(&signals[*net as usize]);
-        let low = low_in(&run, *net);
-        outlooks.push(Outlook { edges, low })?;
+        let outlook = outlook_at(&signals, &run, *net);
+        outlooks.push(outlook)?;
     }
     Ok(outlooks)
 }

@@ -56,6 +56,3 @@ returns-in_err-row-clause-reported g c = λ asked.
 pub returns-in_err-push-clause-reported : goal.returns-in_err-push-clause-reported
 returns-in_err-push-clause-reported g c = λ asked.
     g.met.W.Watch.reported_both asked c.args.watch.now c.loop-place.watch c.tell.new.watch (c.loop-place.invariant.2 asked) (c.tell.ensures asked)
-
-pub loop-place-initial : goal.loop-place-initial
-loop-place-initial g c = (refl, tt, λ asked. g.met.W.Watch.reported_nothing asked c.args.watch.now)

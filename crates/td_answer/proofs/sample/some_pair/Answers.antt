@@ -1,7 +1,7 @@
 use Rattle.td_answer.proofs.sample.some_pair.Goals as goal
 
 pub representative-requires-clause-any : goal.representative-requires-clause-any
-representative-requires-clause-any c = rw c.pins-pins.ensures.pins (c.any.ensures.0 c.if-not-any.false)
+representative-requires-clause-any c = c.any.ensures.0 c.if-not-any.false
 
 pub representative-requires-clause-part : goal.representative-requires-clause-part
 representative-requires-clause-part c = λ pair is. rw c.pins-pins.ensures.pins at is
