@@ -106,7 +106,7 @@ With `--progress` standard error names each output as it is begun. Standard outp
   rows 0 of 3 output y ..
   rows 1 of 3 output \z+ [1] ..
   rows 2 of 3 output \z+ [0] ..
-  $ tdelay worst two.v --each --changes --json --progress 2> told | cmp - <(tdelay worst two.v --each --changes --json); wc -l < told
+  $ tdelay worst two.v --each --changes --json --progress 2> told | cmp - <(tdelay worst two.v --each --changes --json); wc -l < told; rm told
   3
 
 Without outputs there is no line.
