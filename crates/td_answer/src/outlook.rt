@@ -128,10 +128,10 @@ fn outlook_at(signals: &[Signal], run: &Option<Run>, net: u32) -> Outlook
     requires run { IfSome run.now (λ run. net < length run.waves) }
     ensures { IsOutlookAt signals.now run.now net result }
 {
-    Outlook {
-        edges: Edges::last(&signals[net as usize]),
-        low: low_in(run, net),
-    }
+    let signal = &signals[net as usize];
+    let edges = Edges::last(signal);
+    let low = low_in(run, net);
+    Outlook { edges, low }
 }
 
 /// What is known of each output, in order, by one evaluation of edges and one run.

@@ -23,7 +23,7 @@ outlook_at-outlook-requires-clause-run c =
     let circuit = c.args.circuit.now in
     let within : c.loop-net.net-index < length circuit.outputs = rw c.outputs-net-items.ensures at c.loop-net-test.true in
     let out = output_at circuit c.in_ok-signals.ensures.numbering c.loop-net.net-index within in
-    rw c.outputs-net-items.ensures (wave_within circuit c.args.admit.now c.in_ok-run.run (get_or circuit.outputs c.loop-net.net-index 0) c.in_ok-run.ensures out.within)
+    rw c.outputs-net-items.ensures (wave_within circuit c.args.admit.now c.in_ok-run.run' (get_or circuit.outputs c.loop-net.net-index 0) c.in_ok-run.ensures out.within)
 
 pub loop-net-preserved : goal.loop-net-preserved
 loop-net-preserved c =
@@ -39,7 +39,7 @@ loop-net-preserved c =
     let is = true_outlook circuit numbering i out.name number out.at stands c.in_ok-signals.ensures.fit admit
     (pins_long admit.pins admit.held c.pins.ensures.fit c.requires) c.in_ok-signals.signals.items c.in_ok-signals.ensures.all
     (rw c.pins.ensures.pins at c.in_ok-signals.ensures.front)
-    c.in_ok-run.run (sampled circuit admit c.in_ok-run.run c.in_ok-run.ensures) shown.signal shown.at c.outlook_at-outlook.result shown.edges shown.low in
+    c.in_ok-run.run' (sampled circuit admit c.in_ok-run.run' c.in_ok-run.ensures) shown.signal shown.at c.outlook_at-outlook.result shown.edges shown.low in
     rw c.in_ok-push.ensures.items
     (zip_next (λ output. IsTrueOutlook (alone (setting circuit) output) admit) circuit.netlist.outputs c.loop-net.outlooks.items i out.name c.outlook_at-outlook.result out.at
     c.loop-net.invariant is)
