@@ -3,15 +3,18 @@
 ghost use Rattle.std.specs.Prelude.{◌≡◌, ◌<◌, ℕ, true, length, Some, IfOk, IfErr, IfSome};
 ghost use Rattle.std.specs.List.{AllZip};
 ghost use Rattle.td_circuit.specs.Settings.{Setting};
-ghost use Rattle.td_circuit.specs.Numbering.{setting};
+ghost use Rattle.td_circuit.specs.Numbering.{nets, setting};
 ghost use Rattle.td_domain.specs.Pairs.{Pair};
 ghost use Rattle.td_domain.specs.Admits.{Admitted, IsAdmitted};
+ghost use Rattle.td_domain.specs.FirstSignals.{AreFirstSignals};
+ghost use Rattle.td_edges.specs.Coverage.{span_reach};
+ghost use Rattle.td_edges.specs.EdgeSignals.{edge_functions};
 ghost use Rattle.td_source.specs.Each.{alone};
 ghost use Rattle.td_refutation.specs.Asking.{all_admitted};
 ghost use Rattle.td_lines.specs.declared.line.Found.{Found as FoundModel};
 ghost use Rattle.td_answer.specs.Columns.{pairs_of};
 ghost use Rattle.td_answer.specs.Findings.{IsTrueFound};
-ghost use Rattle.td_answer.specs.Outlooks.{IsLow, IsOutlookAt, IsTrueLow, IsTrueOutlook};
+ghost use Rattle.td_answer.specs.Outlooks.{IsLow, IsOutlookAt, IsSample, IsTrueLow, IsTrueOutlook};
 ghost use Rattle.td_answer.specs.Tables.{IsTrueBound, IsUnanswered};
 
 use crate::alone::Inquiry;
@@ -134,6 +137,33 @@ fn outlook_at(signals: &[Signal], run: &Option<Run>, net: u32) -> Outlook
     Outlook { edges, low }
 }
 
+/// What is known of each output, in order, by the signals of edges and a run, if there is one.
+fn listed(
+    alloc: Global,
+    circuit: &Circuit,
+    admit: &Admit,
+    signals: &[Signal],
+    run: &Option<Run>,
+) -> Result<Vec<Outlook>, AllocError>
+    requires held { length admit.now.held ≡ length circuit.now.netlist.inputs }
+    requires all { length signals.now ≡ length (nets circuit.now) }
+    requires front { AreFirstSignals edge_functions (λ signal. span_reach signal.changes) circuit.now admit.now.pins signals.now }
+    requires sample { IfSome run.now (IsSample circuit.now admit.now) }
+    ensures { IfOk result (λ outlooks. AllZip (λ output. IsTrueOutlook (alone (setting circuit.now) output) admit.now)
+        circuit.now.netlist.outputs outlooks.items) }
+{
+    // For the prover: the circuit's numbering and moments, and the pins' positions.
+    let _gates = circuit.gates();
+    let _moments = circuit.moments();
+    let _pins = admit.pins();
+    let mut outlooks = Vec::new(alloc);
+    for net in circuit.outputs() {
+        let outlook = outlook_at(signals, run, *net);
+        outlooks.push(outlook)?;
+    }
+    Ok(outlooks)
+}
+
 /// What is known of each output, in order, by one evaluation of edges and one run.
 fn known(alloc: Global, circuit: &Circuit, admit: &Admit) -> Result<Vec<Outlook>, AllocError>
     requires { length admit.now.held ≡ length circuit.now.netlist.inputs }
@@ -142,12 +172,7 @@ fn known(alloc: Global, circuit: &Circuit, admit: &Admit) -> Result<Vec<Outlook>
 {
     let signals = signals::<Edges>(alloc, circuit, admit.pins())?;
     let run = sample(alloc, circuit, admit)?;
-    let mut outlooks = Vec::new(alloc);
-    for net in circuit.outputs() {
-        let outlook = outlook_at(&signals, &run, *net);
-        outlooks.push(outlook)?;
-    }
-    Ok(outlooks)
+    listed(alloc, circuit, admit, &signals, &run)
 }
 
 /// Whether no pair is admitted.

@@ -3,7 +3,7 @@ use Rattle.std.specs.List.{AllZip}
 use Rattle.td_circuit.specs.Numbering.{setting}
 use Rattle.td_source.specs.Each.{alone}
 use Rattle.td_answer.specs.Outlooks.{IsTrueOutlook}
-use Rattle.td_answer.proofs.outlook.known.Given as goal
+use Rattle.td_answer.proofs.outlook.listed.Given as goal
 
 -- what is known of each of the first outputs is there
 abbrev pub invariant-loop-net : goal.invariant-loop-net
