@@ -150,13 +150,11 @@ pub(crate) fn answer_where<'n, 'w, R: Threads + Wait + Sync>(
         (where_settles (pairs_of alone.entry.inquiry) alone.entry.net settled.form)) }
     ensures refusal { IfErr result (IsUnanswered alone.entry.inquiry.admit.now) }
 {
-    match alone.outlook.at_the_end(alone.inquiry.limits.stop) {
-        Some(high) => {
-            let cause = Cause::Time;
-            Ok(KeptAnswer::Open { high, cause })
-        }
-        None => searched_where(rt, alloc, alone, settled),
+    if let Some(high) = alone.outlook.at_the_end(alone.inquiry.limits.stop) {
+        let cause = Cause::Time;
+        return Ok(KeptAnswer::Open { high, cause });
     }
+    searched_where(rt, alloc, alone, settled)
 }
 
 /// What an answer says of the worst delay of the pairs that keep conditions.

@@ -107,10 +107,10 @@ fn found_in<'n, 'w, R: Threads + Wait + Sync>(
     ensures found { IfOk result (IsTrueFound (setting circuit.now) (pairs_of inquiry.entry)) }
     ensures refusal { IfErr result (IsUnanswered inquiry.entry.admit.now) }
 {
-    match unsearched(outlook, inquiry) {
-        Some(found) => Ok(found),
-        None => searched(rt, alloc, circuit, inquiry),
+    if let Some(found) = unsearched(outlook, inquiry) {
+        return Ok(found);
     }
+    searched(rt, alloc, circuit, inquiry)
 }
 
 /// The row of the output at this place, which is asked about alone.
@@ -275,13 +275,13 @@ fn push_rows(report: &mut Report, rows: Vec<Row>) -> Result<(), AllocError>
 }
 
 /// The table of what a request asks of a text: a row for each output, which is asked about alone.
-pub(crate) fn table<'n, 'w, W: TableWatch, R: Threads + Wait + Sync>(
+pub(crate) fn table<'n, 'w, 'a, W: TableWatch, R: Threads + Wait + Sync>(
     rt: &R,
     alloc: Global,
     text: &'n [u8],
     reading: &Reading<'_>,
-    search: &Search<'w>,
-    stop: &Stop,
+    search: &'a Search<'w>,
+    stop: &'a Stop,
     watch: &mut W,
 ) -> Result<Outcome, Refusal<'n, 'w>>
     ensures says { IfOk result (IsTrueTable text.now reading.now search.now) }

@@ -232,13 +232,13 @@ fn push_rows(report: &mut Report, rows: Vec<HazardRow>) -> Result<(), AllocError
 }
 
 /// The hazards of each output of what a request asks of a text, which is asked about alone.
-pub(crate) fn hazards<'n, 'w, R: Threads + Wait + Sync>(
+pub(crate) fn hazards<'n, 'w, 'a, R: Threads + Wait + Sync>(
     rt: &R,
     alloc: Global,
     text: &'n [u8],
     reading: &Reading<'_>,
-    search: &Search<'w>,
-    stop: &Stop,
+    search: &'a Search<'w>,
+    stop: &'a Stop,
 ) -> Result<Outcome, Refusal<'n, 'w>>
     ensures says { IfOk result (AreTrueHazards text.now reading.now search.now) }
     ensures certified { IfOk result (λ outcome. outcome.certificate ≡ Nothing) }
