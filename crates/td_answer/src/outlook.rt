@@ -12,6 +12,7 @@ ghost use Rattle.td_edges.specs.EdgeSignals.{edge_functions};
 ghost use Rattle.td_source.specs.Each.{alone};
 ghost use Rattle.td_refutation.specs.Asking.{all_admitted};
 ghost use Rattle.td_lines.specs.declared.line.Found.{Found as FoundModel};
+ghost use Rattle.td_answer.specs.declared.refusal.Refusal.TheVariants as RefusalAs;
 ghost use Rattle.td_answer.specs.Columns.{pairs_of};
 ghost use Rattle.td_answer.specs.Findings.{IsTrueFound};
 ghost use Rattle.td_answer.specs.Outlooks.{IsLow, IsOutlookAt, IsSample, IsTrueLow, IsTrueOutlook};
@@ -19,7 +20,6 @@ ghost use Rattle.td_answer.specs.Tables.{IsTrueBound, IsUnanswered};
 
 use crate::alone::Inquiry;
 use crate::changes::is_closed;
-use crate::refusal::Refusal;
 use crate::sample::sample;
 use std::alloc::{AllocError, Global};
 use td_circuit::Circuit;
@@ -183,18 +183,18 @@ fn admits_none(admit: &Admit) -> bool
 }
 
 /// What is known of each output, in order. Where there is one, some pair has to be admitted.
-pub(crate) fn outlooks<'n, 'w>(
+pub(crate) fn outlooks(
     alloc: Global,
     circuit: &Circuit,
     admit: &Admit,
-) -> Result<Vec<Outlook>, Refusal<'n, 'w>>
+) -> Result<Vec<Outlook>, SearchFault>
     requires { length admit.now.held ≡ length circuit.now.netlist.inputs }
     ensures outlooks { IfOk result (λ outlooks. AllZip (λ output. IsTrueOutlook (alone (setting circuit.now) output) admit.now)
         circuit.now.netlist.outputs outlooks.items) }
-    ensures refusal { IfErr result (IsUnanswered admit.now) }
+    ensures fault { IfErr result (λ fault. IsUnanswered admit.now (RefusalAs.Search fault)) }
 {
     if !circuit.outputs().is_empty() && admits_none(admit) {
-        return Err(Refusal::Search(SearchFault::NoPair));
+        return Err(SearchFault::NoPair);
     }
     let outlooks = known(alloc, circuit, admit)?;
     Ok(outlooks)

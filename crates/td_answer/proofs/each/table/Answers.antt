@@ -35,7 +35,7 @@ pub returns-in_err-outlooks-clause-refusal : goal.returns-in_err-outlooks-clause
 returns-in_err-outlooks-clause-refusal g c =
     let reported = err_from_is_err_and c.from_residual-in_err-outlooks.result c.from_residual-in_err-outlooks.ensures.1 in
     rw (reported.1, reported.2) (refused_each c.args.text.now c.args.reading.now c.args.search.now (setting c.in_ok-circuit.field-0.circuit) c.in_ok-circuit.field-0.admit
-    _ c.in_ok-circuit.ensures.asked c.in_err-outlooks.ensures.refusal)
+    _ c.in_ok-circuit.ensures.asked c.in_err-outlooks.ensures.fault)
 
 pub returns-clause-reported : goal.returns-clause-reported
 returns-clause-reported g c =
