@@ -91,8 +91,12 @@ QUESTIONS = [
     ("c432x", [*CHANNEL, "--keep", "PA=00"], "exact 2074"),
     ("c432x", [*CHANNEL, "--keep", "PA=="], "exact 2074"),
 ]
-# Circuits of which each output's changes have figures, and of which it is asked for hazards.
-CHANGES = ["c432x", "add32", "alu32_b", "c880x", "sifrag", "c6288x8", "mul8", "booth8"]
+# Circuits of which each output's changes have figures, with further words, and of which it is asked
+# for hazards. One question of c880x stays open, however long it is searched.
+CHANGES = [
+    ("c432x", []), ("add32", []), ("alu32_b", []), ("c880x", ["--budget", "150000"]),
+    ("sifrag", []), ("c6288x8", []), ("mul8", []), ("booth8", []),
+]  # fmt: skip
 HAZARDS = [
     ("c432x", []), ("c880x", []), ("add32", []), ("add32", ["--flips", "1"]), ("c1908x", []),
     ("sifrag", []), ("sifrag", ["--flips", "1"]), ("alu32_b", []), ("c6288x8", []), ("mul8", []),
@@ -144,11 +148,11 @@ def promises(table):
 def changes(table):
     """The latest rise, fall and glitch of each output."""
     table.head("Netlist", "Outputs", "Exact", "Open", "Never", "Seconds")
-    for name in CHANGES:
+    for name, words in CHANGES:
         path = netlist(table, name)
         if path is None:
             continue
-        done = run(table, path, ["--each", "--changes", "--figures"])
+        done = run(table, path, ["--each", "--changes", "--figures", *words])
         rows = re.findall(r"(?m)^each .* exact (.*)$", done.report)
         columns = [word for row in rows for word in re.findall(r"(?:rise|fall|glitch) (\S+)", row)]
         count = Counter(
@@ -160,7 +164,8 @@ def changes(table):
             times = [int(it) for it in re.findall(r"(?:rise|fall|glitch) (\d+)(?!\S)", row)]
             if ".." not in row and max(times, default=0) != free:
                 table.faults.append(f"{name}: {row}: the greatest isn't that of all changes")
-        table.add(f"`{name}`", len(rows), count["exact"], count["open"], count["never"],
+        shown = f"`{' '.join([name, *words])}`"
+        table.add(shown, len(rows), count["exact"], count["open"], count["never"],
                   seconds_of(done, places_after=1))  # fmt: skip
 
 
