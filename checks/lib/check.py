@@ -30,7 +30,7 @@ SKIPPED = 77
 MOST_WRONG = 20
 
 
-class Terminated(Exception):
+class Terminated(BaseException):
     """The check is ended before it tried all cases: its last line says what it has found."""
 
 
