@@ -130,7 +130,8 @@ def tried(check, work, shares):
 
 
 def terminated(_signal, _frame):
-    """What SIGTERM does."""
+    """What the first SIGTERM does."""
+    signal.signal(signal.SIGTERM, signal.SIG_IGN)
     raise Terminated
 
 
