@@ -17,6 +17,8 @@ mod sinks;
 #[cfg(test)]
 mod spans;
 #[cfg(test)]
+mod stopped;
+#[cfg(test)]
 mod texts;
 #[cfg(test)]
 mod together;

@@ -2,7 +2,7 @@ use Rattle.std.proofs.Common.{List, sym, ap, subst}
 use Rattle.td_event_sim.specs.Cached.{Cached, AreOf}
 use Rattle.td_event_sim.specs.Scratch.{Space, IsFor}
 use Rattle.td_event_sim.proofs.Caching.{held-is, put-is}
-use Rattle.td_event_sim.proofs.scratch.delay_of.Goals as goal
+use Rattle.td_event_sim.proofs.scratch.delay_until.Goals as goal
 
 pub returns-in-Some-clause-only : goal.returns-in-Some-clause-only
 returns-in-Some-clause-only c =
