@@ -86,7 +86,7 @@ pub fn delay_of(scratch: &mut Scratch, circuit: &Circuit, pair: &Pair) -> Result
     }
 }
 
-/// As `delay_of`, unless the stop is set meanwhile. A simulation looks at the stop after each four
+/// As `delay_of`, unless the stop is set meanwhile. A simulation looks at the stop after each two
 /// million steps or so: the event of a net is one, and so is each gate that reads it. One of fewer
 /// steps ends with its delay, whatever the stop says. After an error the scratch may be used again.
 pub fn delay_until(

@@ -24,7 +24,7 @@ use crate::earliest::NEVER;
 use crate::events::Events;
 use crate::interruption::Interruption;
 use crate::logic::{Logic, settle};
-use crate::looks::{is_stopped, steps_of};
+use crate::looks::is_stopped;
 use std::alloc::{AllocError, Global};
 use td_circuit::Circuit;
 use td_domain::Pair;
@@ -243,8 +243,7 @@ impl State {
         let mut steps = 0u64;
         while moment < NEVER {
             self.advance(lists, readers, circuit, moment)?;
-            steps = steps.saturating_add(steps_of(readers, &lists.taken));
-            if is_stopped(stop, &mut steps) {
+            if is_stopped(stop, &mut steps, readers, &lists.taken) {
                 return Err(Interruption::Stopped);
             }
             moment = self.events.queue.first_from(moment + 1);
