@@ -21,6 +21,7 @@ pub mod Searches
 pub mod Findings
 pub mod Columns
 pub mod Tables
+pub mod Outlooks
 pub mod Hazards
 pub mod Simulations
 pub mod Paths

@@ -13,6 +13,7 @@ mod question;
 mod refuting;
 mod searching;
 mod support;
+mod telling;
 
 pub use evidence::tree_of_high;
 pub use found::Found;
