@@ -1,6 +1,5 @@
-use Rattle.std.proofs.Common.{◌≡◌, ◌<◌, ◌∙◌, List, length, map, refl, sym, ap, subst, arith, Some, slice_get}
+use Rattle.std.proofs.Common.{◌≡◌, ◌<◌, ◌∙◌, List, length, map, get_or, sym, ap, subst, arith, None, Some, slice_get}
 use Rattle.std.proofs.lemmas.List.{length-map}
-use Rattle.std.proofs.lemmas.Option.{slice_get_read}
 use Rattle.std.proofs.lemmas.Slice.Zip.{AllZip-long}
 use Rattle.td_gates.proofs.Places.{slice_get-within}
 use Rattle.td_nets.specs.Netlist.{Name}
@@ -10,8 +9,9 @@ use Rattle.td_source.specs.Each.{alone}
 use Rattle.td_search.specs.Problems.{Problem}
 use Rattle.td_answer.specs.Columns.{pairs_of}
 use Rattle.td_answer.specs.Outlooks.{IsTrueOutlook}
+use Rattle.td_answer.specs.declared.outlook.Outlook.{Outlook}
 use Rattle.td_answer.specs.Tables.{IsTrueRow}
-use Rattle.td_answer.proofs.Zips.{zip_next, zip_at}
+use Rattle.td_answer.proofs.Zips.{zip_next, zip_read}
 use Rattle.td_answer.proofs.each.rows.Goals as goal
 
 pub bounds-outlooks-place : goal.bounds-outlooks-place
@@ -28,12 +28,18 @@ bounds-outlooks-place g c =
 pub row_of-requires-clause-outlook : goal.row_of-requires-clause-outlook
 row_of-requires-clause-outlook g c κs lives =
     let whole = c.args.outputs.now.whole in
-    let less : c.loop-place.place < length c.args.outlooks.now = bounds-outlooks-place g c in
-    let at = slice_get_read c.args.outlooks.now (length c.args.outlooks.now) c.loop-place.place c.index-outlooks-place.result refl less c.index-outlooks-place.is in
+    let less : c.loop-place.place < length c.args.outlooks.now = omega (
+      arith,
+      length-map c.names-count.result.now name_of,
+      ap (λ (ns : List Name). length ns) c.names-count.ensures,
+      AllZip-long (λ output. IsTrueOutlook (alone (setting whole) output) c.args.inquiry.admit.now) whole.netlist.outputs c.args.outlooks.now c.requires.outlooks,
+      c.loop-place-test.true,
+    ) in
+    let nothing : Outlook = record { edges = None; low = None } in
     subst (λ (now : Numbered). (output : Name) → slice_get now.netlist.outputs c.loop-place.place ≡ Some output
-    → IsTrueOutlook (alone (setting now) output) c.args.inquiry.admit.now c.index-outlooks-place.result) (sym c.loop-place.invariant.0)
-    (λ output stands. zip_at (λ output. IsTrueOutlook (alone (setting whole) output) c.args.inquiry.admit.now) whole.netlist.outputs c.args.outlooks.now c.requires.outlooks
-    c.loop-place.place output c.index-outlooks-place.result stands at)
+    → IsTrueOutlook (alone (setting now) output) c.args.inquiry.admit.now (get_or c.args.outlooks.now c.loop-place.place nothing)) (sym c.loop-place.invariant.0)
+    (λ output stands. zip_read (λ output. IsTrueOutlook (alone (setting whole) output) c.args.inquiry.admit.now) whole.netlist.outputs c.args.outlooks.now c.requires.outlooks
+    c.loop-place.place nothing less output stands)
 
 pub loop-place-preserved : goal.loop-place-preserved
 loop-place-preserved g c =

@@ -23,7 +23,7 @@ worst_kept-requires-clause-fit g c κs within = c.requires.fit
 
 pub returns-in_err-answer-clause-refusal : goal.returns-in_err-answer-clause-refusal
 returns-in_err-answer-clause-refusal g c =
-    let reported = err_from_is_err_and c.from_residual-in_err-answer.result c.from_residual-in_err-answer.ensures.1 in
+    let reported = err_from_is_err_and c.from_residual.result c.from_residual.ensures.1 in
     rw (reported.1, reported.2) (unanswered (problem_by Lead c.args.circuit.now c.args.inquiry.admit.now) c.in_err-answer.field-0.0 c.in_err-answer.ensures.fault)
 
 pub returns-in_err-found-clause-refusal : goal.returns-in_err-found-clause-refusal

@@ -6,6 +6,7 @@ use Rattle.td_circuit.specs.Settings.{Setting}
 use Rattle.td_source.specs.Each.{alone}
 use Rattle.td_question.proofs.Questions.{asked_held}
 use Rattle.td_answer.specs.Outlooks.{IsTrueOutlook}
+use Rattle.td_answer.specs.declared.refusal.Refusal.TheVariants as refusal
 use Rattle.td_answer.proofs.EachOne.{refused_each}
 use Rattle.td_answer.proofs.hazards.hazards.Goals as goal
 
@@ -26,11 +27,11 @@ returns-in_err-rows-clause-refusal g c =
 
 pub rows-requires-clause-outlooks : goal.rows-requires-clause-outlooks
 rows-requires-clause-outlooks g c κs lives =
-    rw c.deref.ensures.value (subst (λ (s : Setting). AllZip (λ output. IsTrueOutlook (alone s output) c.in_ok-circuit.field-0.admit) s.netlist.outputs c.in_ok-outlooks.outlooks.items)
+    rw c.deref-2.ensures.value (subst (λ (s : Setting). AllZip (λ output. IsTrueOutlook (alone s output) c.in_ok-circuit.field-0.admit) s.netlist.outputs c.in_ok-outlooks.outlooks.items)
     (sym c.in_ok-outputs.ensures) c.in_ok-outlooks.ensures.outlooks)
 
 pub returns-in_err-outlooks-clause-refusal : goal.returns-in_err-outlooks-clause-refusal
 returns-in_err-outlooks-clause-refusal g c =
     let reported = err_from_is_err_and c.from_residual-in_err-outlooks.result c.from_residual-in_err-outlooks.ensures.1 in
     rw (reported.1, reported.2) (refused_each c.args.text.now c.args.reading.now c.args.search.now (setting c.in_ok-circuit.field-0.circuit) c.in_ok-circuit.field-0.admit
-    _ c.in_ok-circuit.ensures.asked c.in_err-outlooks.ensures.fault)
+    (refusal.Search c.in_err-outlooks.field-0.0) c.in_ok-circuit.ensures.asked c.in_err-outlooks.ensures.fault)
