@@ -24,7 +24,10 @@ fn progress_in_place(rt: HostRuntime) -> Result<(), Fail> {
     );
     let rows: [&[u8]; 2] = [b"rows 0\n", b"rows 1\n"];
     let shown = written(&rt, true, &rows)?;
-    assert_eq!(rt; shown.as_slice(), b"rows 0\n\x1b[A\x1b[2Krows 1\n".as_slice());
+    assert_eq!(rt;
+        shown.as_slice(),
+        b"rows 0\n\x1b[A\x1b[2Krows 1\n".as_slice()
+    );
     let plain = written(&rt, false, &texts)?;
     assert_eq!(rt;
         plain.as_slice(),
