@@ -219,8 +219,8 @@ given pair, as `path` prints them",
         self.flag(
             "progress",
             "Writes to standard error how far the search is, each time that the\n\
-nodes handled pass 1, 2, 5, 10, 20, .. thousand, and every ten seconds; with\n\
---each, each output as it is begun",
+nodes handled pass 1, 2, 5, 10, 20, .. thousand, and every ten seconds;\n\
+with --each, each output as it is begun",
         )?;
         self.outputs(LATEST_HELP)
     }
