@@ -8,6 +8,7 @@ use Rattle.td_lines.specs.declared.line.Cause.{Cause}
 use Rattle.td_lines.specs.declared.line.Line.{Line}
 use Rattle.td_lines.specs.declared.line.Line.TheVariants as line
 use Rattle.td_answer.specs.Requirements.{required_lines, cause_of, cause_by, ending_by}
+use Rattle.td_answer.specs.declared.requirement.Ended.{Ended}
 use Rattle.td_answer.specs.declared.status.Status.{Status}
 use Rattle.td_answer.specs.declared.status.Status.TheVariants as status
 
@@ -25,10 +26,10 @@ between_lines required low high cause pair nodes =
 abbrev pub at_most_lines : Option ℕ → ℕ → Cause → List Line
 at_most_lines required high cause = line.AtMost high ∷ line.Cause (cause_by required 0 high cause) ∷ required_lines required 0 high
 
--- of an answer, where somebody asked for the search's end, or nobody did
-abbrev pub answer_lines : Bool → Option ℕ → Answer → List Line
-answer_lines was_asked required (answer.Exact time pair tree) = exact_lines required time pair (length tree)
-answer_lines was_asked required (answer.Between low high pair nodes cause) = between_lines required low high (cause_of was_asked cause) pair nodes
+-- of an answer of a search that ended so
+abbrev pub answer_lines : Ended → Option ℕ → Answer → List Line
+answer_lines ended required (answer.Exact time pair tree) = exact_lines required time pair (length tree)
+answer_lines ended required (answer.Between low high pair nodes cause) = between_lines required low high (cause_of ended nodes cause) pair nodes
 
 -- the time of a whole whose parts were checked, or weren't, and that no pair is admitted
 abbrev pub time_line : Bool → ℕ → Line

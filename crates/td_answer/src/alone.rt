@@ -130,8 +130,8 @@ fn searched_where<'n, 'w, R: Threads + Wait + Sync>(
         keep: &keep,
         required,
     };
-    let answer = td_worst::worst_kept(rt, alloc, question, inquiry.limits)?;
-    Ok(answer)
+    let found = td_worst::worst_kept(rt, alloc, question, inquiry.limits)?;
+    Ok(found.answer)
 }
 
 /// What is known of the pairs under which the output settles so: what the search answers, or the

@@ -5,7 +5,7 @@ ghost use Rattle.td_answer.specs.Heads.{head_lines};
 ghost use Rattle.td_answer.specs.Lines.{exact_lines, between_lines, answer_lines, ending_of, pair_in};
 
 use crate::head::begun;
-use crate::requirement::{cause_by, cause_of, ending_by, push_required};
+use crate::requirement::{Ended, cause_by, cause_of, ending_by, push_required};
 use crate::status::Status;
 use std::alloc::{AllocError, Global};
 use td_certificate::Tree;
@@ -34,19 +34,18 @@ pub(crate) fn ending_of(required: Option<u64>, answer: &Answer) -> Status
     }
 }
 
-/// The report of an answer, where this moment is required, and somebody asked for the search's end
-/// or nobody did.
+/// The report of an answer of a search that ended so, where this moment is required.
 pub(crate) fn report_of(
     alloc: Global,
     circuit: &Circuit,
     required: Option<u64>,
     answer: &Answer,
-    was_asked: bool,
+    ended: Ended,
 ) -> Result<Report, AllocError>
-    ensures { IfOk result (λ report. report ≡ head_lines circuit.now.netlist ++ answer_lines was_asked required answer.now) }
+    ensures { IfOk result (λ report. report ≡ head_lines circuit.now.netlist ++ answer_lines ended required answer.now) }
 {
     let mut report = begun(alloc, circuit)?;
-    push_answer(alloc, &mut report, required, answer, was_asked)?;
+    push_answer(alloc, &mut report, required, answer, ended)?;
     Ok(report)
 }
 
@@ -55,9 +54,9 @@ fn push_answer(
     report: &mut Report,
     required: Option<u64>,
     answer: &Answer,
-    was_asked: bool,
+    ended: Ended,
 ) -> Result<(), AllocError>
-    ensures { OnOk result (report.new ≡ report.old ++ answer_lines was_asked required answer.now) }
+    ensures { OnOk result (report.new ≡ report.old ++ answer_lines ended required answer.now) }
 {
     match answer {
         Answer::Exact { time, pair, tree } => {
@@ -73,7 +72,7 @@ fn push_answer(
             let figures = Figures {
                 low: *low,
                 high: *high,
-                cause: cause_of(*cause, was_asked),
+                cause: cause_of(*cause, *nodes, ended),
             };
             push_between(alloc, report, required, figures, pair, *nodes)
         }

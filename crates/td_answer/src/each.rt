@@ -80,8 +80,8 @@ fn searched<'n, 'w, R: Threads + Wait + Sync>(
             keep,
             required: search.required,
         };
-        let answer = td_worst::worst_kept(rt, alloc, question, limits)?;
-        return Ok(kept_found(&answer));
+        let found = td_worst::worst_kept(rt, alloc, question, limits)?;
+        return Ok(kept_found(&found.answer));
     }
     let question = Question {
         circuit,

@@ -34,7 +34,7 @@ use crate::kept_certificate::{Told, kept_certificate};
 use crate::open_certificate::{Open, open_certificate};
 use crate::outcome::Outcome;
 use crate::refusal::Refusal;
-use crate::requirement::{cause_by, cause_of, ending_by, push_required};
+use crate::requirement::{Ended, cause_by, cause_of, ending_by, push_required};
 use crate::status::Status;
 use crate::worst::{dump_of, limits_of};
 use std::alloc::{AllocError, Global};
@@ -202,7 +202,7 @@ fn outcome_of(
     told: Told,
     answer: KeptAnswer,
     search: &Search<'_>,
-    was_asked: bool,
+    ended: Ended,
 ) -> Result<Outcome, AllocError>
     requires held { length admit.held ≡ length circuit.netlist.inputs }
     requires flips { admit.flips ≤ length admit.held }
@@ -234,12 +234,12 @@ fn outcome_of(
                 high,
                 support,
             };
-            let why = cause_of(cause, was_asked);
+            let why = cause_of(cause, 0, ended);
             let lying = between(alloc, circuit, admit, told, known, why, search)?;
             Ok(lying)
         }
         KeptAnswer::Open { high, cause } => {
-            let why = cause_of(cause, was_asked);
+            let why = cause_of(cause, 0, ended);
             let bounded = at_most(alloc, &circuit, high, why, search)?;
             Ok(bounded)
         }
@@ -282,13 +282,17 @@ pub(crate) fn worst_kept<'n, 'w, R: Threads + Wait + Sync>(
         required: search.required,
     };
     let limits = limits_of(&search.effort, stop);
-    let answer = td_worst::worst_kept(rt, alloc, question, limits)?;
-    let was_asked = stop.was_asked();
+    let found = td_worst::worst_kept(rt, alloc, question, limits)?;
+    let ended = Ended {
+        was_asked: stop.was_asked(),
+        budget: u64::from(search.effort.budget),
+        work: found.work,
+    };
     let told = Told {
         default: reading.default,
         outputs,
         keep,
     };
-    let outcome = outcome_of(alloc, circuit, admit, told, answer, search, was_asked)?;
+    let outcome = outcome_of(alloc, circuit, admit, told, found.answer, search, ended)?;
     Ok(outcome)
 }

@@ -26,6 +26,7 @@ use crate::kept_certificate::Told;
 use crate::open_certificate::{Open, open_certificate};
 use crate::outcome::{Outcome, Waves};
 use crate::refusal::Refusal;
+use crate::requirement::Ended;
 use crate::runs::run_of;
 use std::alloc::{AllocError, Global};
 use std::sync::Wait;
@@ -92,13 +93,13 @@ fn reported(
     circuit: &Circuit,
     answer: &Answer,
     search: &Search<'_>,
-    was_asked: bool,
+    ended: Ended,
 ) -> Result<Report, AllocError>
     requires first_fits { length (pair_in answer.now).first ≡ length circuit.now.netlist.inputs }
     requires second_fits { length (pair_in answer.now).second ≡ length circuit.now.netlist.inputs }
-    ensures { IfOk result (AddsLines (TellsPair search.now.shown (setting circuit.now) (pair_in answer.now)) (head_lines circuit.now.netlist ++ answer_lines was_asked search.now.required answer.now)) }
+    ensures { IfOk result (AddsLines (TellsPair search.now.shown (setting circuit.now) (pair_in answer.now)) (head_lines circuit.now.netlist ++ answer_lines ended search.now.required answer.now)) }
 {
-    let mut report = report_of(alloc, circuit, search.required, answer, was_asked)?;
+    let mut report = report_of(alloc, circuit, search.required, answer, ended)?;
     push_run(alloc, &mut report, circuit, pair_in(answer), search.shown)?;
     Ok(report)
 }
@@ -128,7 +129,9 @@ fn certificate_of(
     ensures { IfOk result (IsCertificateOf telling.told (problem_by telling.strategy circuit.now admit) search.now found.answer) }
 {
     let Telling { told, strategy } = telling;
-    let Found { answer, support } = found;
+    let Found {
+        answer, support, ..
+    } = found;
     match answer {
         Answer::Exact { time, pair, tree } => {
             let moments = Vec::from_slice(alloc, circuit.moments())?;
@@ -169,7 +172,7 @@ fn outcome_of(
     strategy: Strategy,
     found: Found,
     search: &Search<'_>,
-    was_asked: bool,
+    ended: Ended,
 ) -> Result<Outcome, AllocError>
     requires held { length asked.admit.held ≡ length asked.circuit.netlist.inputs }
     requires flips { asked.admit.flips ≤ length asked.admit.held }
@@ -180,7 +183,7 @@ fn outcome_of(
     requires ordered { low_of found.answer ≤ high_of found.answer }
     requires shown { IsSupport (setting asked.circuit) asked.admit found.support }
     ensures report { IfOk result (λ outcome. AddsLines (TellsPair search.now.shown (setting asked.circuit) (pair_in found.answer))
-        (head_lines asked.circuit.netlist ++ answer_lines was_asked search.now.required found.answer) outcome.report) }
+        (head_lines asked.circuit.netlist ++ answer_lines ended search.now.required found.answer) outcome.report) }
     ensures certified { IfOk result (λ outcome. IsCertificateOf (told_with default asked.outputs asked.keep) (problem_by strategy asked.circuit asked.admit) search.now
         found.answer outcome.certificate) }
     ensures dumped { IfOk result (λ outcome. IsDumpWhere (is_some search.now.dump) (setting asked.circuit)
@@ -194,7 +197,7 @@ fn outcome_of(
         keep,
         ..
     } = asked;
-    let report = reported(alloc, &circuit, &found.answer, search, was_asked)?;
+    let report = reported(alloc, &circuit, &found.answer, search, ended)?;
     let status = ending_of(search.required, &found.answer);
     let pair = pair_in(&found.answer).copy(alloc)?;
     let told = Told {
@@ -244,6 +247,11 @@ pub(crate) fn worst<'n, 'w, W: Watch, R: Threads + Wait + Sync>(
         required: search.required,
     };
     let found = td_worst::worst(rt, alloc, question, limits, watch)?;
+    let ended = Ended {
+        was_asked: stop.was_asked(),
+        budget: u64::from(search.effort.budget),
+        work: found.work,
+    };
     let outcome = outcome_of(
         alloc,
         asked,
@@ -251,7 +259,7 @@ pub(crate) fn worst<'n, 'w, W: Watch, R: Threads + Wait + Sync>(
         method.strategy(),
         found,
         search,
-        stop.was_asked(),
+        ended,
     )?;
     Ok(outcome)
 }

@@ -6,14 +6,14 @@ use td_answer::Outcome;
 use td_lines::{Cause, Line, Text};
 use td_request::{Effort, MOST_NODES, Search, Strategy};
 
-/// Whether a report says that somebody asked for the search's end.
-fn was_stopped(report: &[Line]) -> bool {
+/// Why a search ended, where its report says so.
+fn cause_in(report: &[Line]) -> Option<Cause> {
     for line in report {
-        if let Line::Cause(Cause::Stop) = line {
-            return true;
+        if let Line::Cause(cause) = line {
+            return Some(*cause);
         }
     }
-    false
+    None
 }
 
 /// Appends that a search was cut short, or one of those for each output, and how it goes on; and
@@ -23,8 +23,12 @@ pub(crate) fn cut_short(
     search: &Search<'_>,
     outcome: &Outcome,
 ) -> Result<(), AllocError> {
-    if was_stopped(outcome.report.lines()) {
-        return text.push(b"the file of --stop ended the search; both figures are true");
+    match cause_in(outcome.report.lines()) {
+        Some(Cause::Stop) => {
+            return text.push(b"the file of --stop ended the search; both figures are true");
+        }
+        Some(Cause::Effort) => return at_effort(text, search, outcome),
+        _ => {}
     }
     let budget = u64::from(search.effort.budget);
     if search.table.is_some() {
@@ -47,6 +51,21 @@ pub(crate) fn cut_short(
         uncertified(text, search.between)?;
     }
     ways_on(text, &search.effort)
+}
+
+/// Appends that a search had nothing more to try, and what goes on.
+fn at_effort(text: &mut Text, search: &Search<'_>, outcome: &Outcome) -> Result<(), AllocError> {
+    text.push(b"the search has nothing more to try; both figures are true")?;
+    if search.strategy != Strategy::Lead {
+        help(
+            text,
+            b"--strategy lead, which goes on where pairs keep no conditions",
+        )?;
+    }
+    if search.certificate.is_some() && outcome.certificate.is_none() {
+        uncertified(text, search.between)?;
+    }
+    fewer_pairs(text)
 }
 
 /// Appends that no certificate was written, and what to do.
@@ -74,6 +93,11 @@ fn ways_on(text: &mut Text, effort: &Effort) -> Result<(), AllocError> {
     if effort.workers == 1 {
         help(text, b"--workers N, as many as the machine has processors")?;
     }
+    fewer_pairs(text)
+}
+
+/// Appends which options ask about fewer pairs.
+fn fewer_pairs(text: &mut Text) -> Result<(), AllocError> {
     help(
         text,
         b"or fewer pairs: --first, --second, --hold, --flips; or `tdelay parts`",

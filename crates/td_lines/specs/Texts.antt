@@ -113,6 +113,7 @@ abbrev pub cause_line : Cause → List ℕ
 cause_line cause.Budget = codes "cause budget" ++ newline
 cause_line cause.Memory = codes "cause memory" ++ newline
 cause_line cause.Time = codes "cause time" ++ newline
+cause_line cause.Effort = codes "cause effort" ++ newline
 cause_line cause.Stop = codes "cause stop" ++ newline
 cause_line cause.Required = codes "cause required" ++ newline
 

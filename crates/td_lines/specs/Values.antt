@@ -54,6 +54,7 @@ abbrev pub cause_text : Cause → List ℕ
 cause_text cause.Budget = codes "budget"
 cause_text cause.Memory = codes "memory"
 cause_text cause.Time = codes "time"
+cause_text cause.Effort = codes "effort"
 cause_text cause.Stop = codes "stop"
 cause_text cause.Required = codes "required"
 

@@ -12,6 +12,8 @@ pub enum Cause {
     Budget,
     Memory,
     Time,
+    /// There was nothing more to try, and the budget isn't used up.
+    Effort,
     /// Somebody asked for the search's end.
     Stop,
     /// What was asked of a required moment is answered.

@@ -272,6 +272,7 @@ fn cause_word(why: Cause) -> &'static str
         Cause::Budget => "budget",
         Cause::Memory => "memory",
         Cause::Time => "time",
+        Cause::Effort => "effort",
         Cause::Stop => "stop",
         Cause::Required => "required",
     }

@@ -296,6 +296,7 @@ fn cause(out: &mut Text, why: Cause) -> Result<(), AllocError>
         Cause::Budget => out.push(b"cause budget\n"),
         Cause::Memory => out.push(b"cause memory\n"),
         Cause::Time => out.push(b"cause time\n"),
+        Cause::Effort => out.push(b"cause effort\n"),
         Cause::Stop => out.push(b"cause stop\n"),
         Cause::Required => out.push(b"cause required\n"),
     }

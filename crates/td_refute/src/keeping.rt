@@ -30,13 +30,14 @@ pub enum Evidence {
     NoPair(Vec<Step>),
 }
 
-/// What a search answers: the latest pair that it found, if it did, what was shown, and why it
-/// ended.
+/// What a search answers: the latest pair that it found, if it did, what was shown, why it ended,
+/// and how many units of work it took.
 #[derive(Drop)]
 pub struct Answered {
     pub best: Option<Timed>,
     pub evidence: Evidence,
     pub ending: Ending,
+    pub work: u64,
 }
 
 impl Answered {
@@ -49,6 +50,7 @@ impl Answered {
             best: None,
             evidence: Evidence::Nothing,
             ending,
+            work: 0,
         }
     }
 }
@@ -78,6 +80,7 @@ pub fn refute_keeping<R: Threads + Sync>(
         pair,
         steps,
         ending,
+        work,
     } = search(rt, alloc, circuit, admit, keep, 0, effort)?;
     let best = measured(alloc, circuit, admit, keep, pair, effort.stop)?;
     let evidence = evidence_of(alloc, circuit, admit, keep, steps);
@@ -85,6 +88,7 @@ pub fn refute_keeping<R: Threads + Sync>(
         best,
         evidence,
         ending,
+        work,
     })
 }
 

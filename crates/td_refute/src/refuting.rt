@@ -28,11 +28,13 @@ pub struct Refuted {
     pub steps: Vec<Step>,
 }
 
-/// What a search answers: the least bound that was shown, if one was, and why it ended.
+/// What a search answers: the least bound that was shown, if one was, why it ended, and how many
+/// units of work it took.
 #[derive(Drop)]
 pub struct Sought {
     pub refuted: Option<Refuted>,
     pub ending: Ending,
+    pub work: u64,
 }
 
 impl Sought {
@@ -43,6 +45,7 @@ impl Sought {
         Sought {
             refuted: None,
             ending,
+            work: 0,
         }
     }
 }
@@ -82,11 +85,16 @@ pub fn refute<R: Threads + Sync>(
         pair,
         steps,
         ending,
+        work,
     } = search(rt, alloc, circuit, admit, &[], best.time, effort)?;
     keep_found(alloc, scratch, circuit, admit, &pair, best, effort.stop)?;
     let steps = steps?;
     let refuted = show(alloc, circuit, admit, best, steps)?;
-    Ok(Sought { refuted, ending })
+    Ok(Sought {
+        refuted,
+        ending,
+        work,
+    })
 }
 
 // Measures the pair that a search found, if it did, and keeps it where it is later. One whose long

@@ -161,6 +161,7 @@ fn by_refutation<W: Watch, R: Threads + Wait + Sync>(
     Ok(Found {
         answer: shown.answer,
         support,
+        work: shown.work,
     })
 }
 
@@ -293,6 +294,7 @@ fn further<W: Watch, R: Threads + Wait + Sync>(
         return Found {
             answer: soon.answer,
             support,
+            work: soon.work,
         };
     }
     let left = budget - quick;
@@ -312,11 +314,13 @@ fn further<W: Watch, R: Threads + Wait + Sync>(
         return Found {
             answer: led.answer,
             support,
+            work: soon.work,
         };
     }
     let much = with_work(limits, left - more - most, required);
     let shown = refuted_told(rt, alloc, &problem, led.answer, nodes + more, much, watch);
     let steps = lower_steps(soon.refuted, shown.refuted);
+    let work = soon.work.saturating_add(shown.work);
     if is_exact(&shown.answer) || is_answered(required, &shown.answer) {
         let support = Support {
             steps,
@@ -325,6 +329,7 @@ fn further<W: Watch, R: Threads + Wait + Sync>(
         return Found {
             answer: shown.answer,
             support,
+            work,
         };
     }
     let again = Treed {
@@ -340,6 +345,7 @@ fn further<W: Watch, R: Threads + Wait + Sync>(
     Found {
         answer: ended.answer,
         support,
+        work,
     }
 }
 

@@ -51,7 +51,7 @@ returns-clause-says g c =
     true_without c.args.text.now c.args.reading.now c.args.search.now c.in_ok-outcome.outcome (without c.args.search.now.question c.in_ok-asked.asked.circuit.netlist c.in_ok-asked.asked.keep.items c.in_ok-asked.ensures.keep
     (no_rows c.in_ok-asked.asked.keep.items (sym c.in_ok-asked.asked.keep.ok.0 ∙ eqb-true _ _ (sym c.is_empty.ensures ∙ c.if-not-is_empty.false))))
     (says c.args.text.now c.args.reading.now c.args.search.now c.in_ok-asked.asked.circuit c.in_ok-asked.asked.admit (tree_of c.method_of-method.result)
-    c.in_ok-asked.ensures.asked c.was_asked.result c.limits_of-limits.result.effort.budget c.in_ok-found.found.answer c.in_ok-outcome.outcome
+    c.in_ok-asked.ensures.asked c.ended c.limits_of-limits.result.effort.budget c.in_ok-found.found.answer c.in_ok-outcome.outcome
     (outcome_by c.method_of-method.result _ c.limits_of-limits.result.effort.budget c.in_ok-found.found.answer c.in_ok-found.ensures.answer)
     c.in_ok-outcome.ensures.report c.in_ok-outcome.ensures.status c.in_ok-outcome.ensures.dumped)
 
@@ -62,7 +62,7 @@ returns-clause-certified g c =
     (certified c.args.text.now c.args.reading.now c.args.search.now c.in_ok-asked.asked.circuit c.in_ok-asked.asked.admit (tree_of c.method_of-method.result)
     c.in_ok-asked.ensures.asked (told_with c.args.reading.now.default c.in_ok-asked.asked.outputs c.in_ok-asked.asked.keep) refl
     (no_rows c.in_ok-asked.asked.keep.items (sym c.in_ok-asked.asked.keep.ok.0 ∙ eqb-true _ _ (sym c.is_empty.ensures ∙ c.if-not-is_empty.false)))
-    c.in_ok-asked.ensures.outputs c.was_asked.result c.limits_of-limits.result.effort.budget c.in_ok-found.found.answer c.in_ok-outcome.outcome
+    c.in_ok-asked.ensures.outputs c.ended c.limits_of-limits.result.effort.budget c.in_ok-found.found.answer c.in_ok-outcome.outcome
     (outcome_by c.method_of-method.result _ c.limits_of-limits.result.effort.budget c.in_ok-found.found.answer c.in_ok-found.ensures.answer)
     c.in_ok-found.ensures.text c.in_ok-outcome.ensures.report
     (rw c.strategy.ensures at c.in_ok-outcome.ensures.certified))
@@ -74,7 +74,7 @@ returns-clause-written g c =
     (certified c.args.text.now c.args.reading.now c.args.search.now c.in_ok-asked.asked.circuit c.in_ok-asked.asked.admit (tree_of c.method_of-method.result)
     c.in_ok-asked.ensures.asked (told_with c.args.reading.now.default c.in_ok-asked.asked.outputs c.in_ok-asked.asked.keep) refl
     (no_rows c.in_ok-asked.asked.keep.items (sym c.in_ok-asked.asked.keep.ok.0 ∙ eqb-true _ _ (sym c.is_empty.ensures ∙ c.if-not-is_empty.false)))
-    c.in_ok-asked.ensures.outputs c.was_asked.result c.limits_of-limits.result.effort.budget c.in_ok-found.found.answer c.in_ok-outcome.outcome
+    c.in_ok-asked.ensures.outputs c.ended c.limits_of-limits.result.effort.budget c.in_ok-found.found.answer c.in_ok-outcome.outcome
     (outcome_by c.method_of-method.result _ c.limits_of-limits.result.effort.budget c.in_ok-found.found.answer c.in_ok-found.ensures.answer)
     c.in_ok-found.ensures.text c.in_ok-outcome.ensures.report
     (rw c.strategy.ensures at c.in_ok-outcome.ensures.certified)) c.in_ok-outcome.ensures.dumped
