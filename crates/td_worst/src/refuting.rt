@@ -1,6 +1,6 @@
 //! What a refutation makes of an answer.
 
-ghost use Rattle.std.specs.Prelude.{◌≡◌, ⊥, Bool, true, ◌<◌, ◌≤◌, ◌^◌, ℕ, None as Nothing, IfOk, IfSome};
+ghost use Rattle.std.specs.Prelude.{◌≡◌, Bool, true, ◌<◌, ◌≤◌, ◌^◌, ℕ, None as Nothing, IfOk, IfSome};
 ghost use Rattle.td_circuit.specs.Numbering.{setting};
 ghost use Rattle.td_lead.specs.Timed.{IsTimed};
 ghost use Rattle.td_refute.specs.Answers.{IsShown};
@@ -224,20 +224,6 @@ struct Ended {
     work: u64,
 }
 
-impl Ended {
-    // Memory ran out.
-    fn at_memory() -> Ended
-        ensures found { IfOk result.found (λ found. ⊥) }
-        ensures why { result.why ≡ cause.Memory }
-    {
-        Ended {
-            found: Err(AllocError),
-            why: Cause::Memory,
-            work: 0,
-        }
-    }
-}
-
 // Searches for a refutation, from the best pair on.
 fn search<R: Threads + Sync>(
     rt: &R,
@@ -253,7 +239,11 @@ fn search<R: Threads + Sync>(
     ensures cause { result.why ≡ cause.Time → effort.entry.stop.now.can_be_set ≡ true }
 {
     let Ok(mut scratch) = Scratch::new(alloc, problem.circuit) else {
-        return Ended::at_memory();
+        return Ended {
+            found: Err(AllocError),
+            why: Cause::Memory,
+            work: 0,
+        };
     };
     let stop = effort.stop;
     match refute(
@@ -270,6 +260,10 @@ fn search<R: Threads + Sync>(
             why: cause_of(sought.ending, stop),
             work: sought.work,
         },
-        Err(_) => Ended::at_memory(),
+        Err(error) => Ended {
+            found: Err(error),
+            why: Cause::Memory,
+            work: 0,
+        },
     }
 }
