@@ -9,6 +9,7 @@ pub mod Judged
 pub mod Standing
 pub mod RowStanding
 pub mod Unkept
+pub mod Works
 pub mod Searched
 pub mod KeptOnes
 pub mod Chosen

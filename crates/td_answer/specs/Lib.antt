@@ -4,6 +4,7 @@ pub mod Heads
 pub mod Names
 pub mod Rows
 pub mod Methods
+pub mod Ends
 pub mod Lines
 pub mod Runs
 pub mod Dumps

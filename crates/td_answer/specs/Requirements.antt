@@ -1,7 +1,5 @@
 -- A required moment, and what is known of it.
-use Rattle.std.specs.Prelude.{◌≡◌, ℕ, ◌<◌, ◌-◌, nat_lt, nat_le, ◌||◌, Bool, true, false, cond, List, [], ◌∷◌, Option, Some, None}
-use Rattle.td_search.specs.declared.answers.Cause.{Cause as SearchCause}
-use Rattle.td_search.specs.declared.answers.Cause.TheVariants as cause
+use Rattle.std.specs.Prelude.{◌≡◌, ℕ, ◌<◌, nat_lt, nat_le, ◌||◌, Bool, true, false, cond, List, [], ◌∷◌, Option, Some, None}
 use Rattle.td_lines.specs.declared.line.Found.{Found}
 use Rattle.td_lines.specs.declared.line.Found.TheVariants as found
 use Rattle.td_lines.specs.declared.line.Requirement.{Requirement}
@@ -11,7 +9,6 @@ use Rattle.td_lines.specs.declared.line.Line.{Line}
 use Rattle.td_lines.specs.declared.line.Line.TheVariants as line
 use Rattle.td_lines.specs.declared.line.Cause.{Cause}
 use Rattle.td_lines.specs.declared.line.Cause.TheVariants as why
-use Rattle.td_answer.specs.declared.requirement.Ended.{Ended}
 use Rattle.td_answer.specs.declared.status.Status.{Status}
 use Rattle.td_answer.specs.declared.status.Status.TheVariants as status
 
@@ -29,17 +26,6 @@ is_decided (Some moment) low high = nat_le high moment || nat_lt moment low
 abbrev pub required_lines : Option ℕ → ℕ → ℕ → List Line
 required_lines None low high = []
 required_lines (Some moment) low high = line.Required moment (standing_of moment low high) ∷ []
-
--- whether so many nodes and a search's units of work reach its budget together
-abbrev pub has_used_up : Ended → ℕ → Bool
-has_used_up ended nodes = nat_le (ended.budget - nodes) ended.work
-
--- why a search ended that handled so many nodes: for its budget only where that was used up, else it had
--- nothing more to try; where its stop was set, whether somebody asked for that
-abbrev pub cause_of : Ended → ℕ → SearchCause → Cause
-cause_of ended nodes cause.Budget = cond (has_used_up ended nodes) why.Budget why.Effort
-cause_of ended nodes cause.Memory = why.Memory
-cause_of ended nodes cause.Time = cond ended.was_asked why.Stop why.Time
 
 -- why figures are open: what was asked of a required moment is answered, or else why the search ended
 abbrev pub cause_by : Option ℕ → ℕ → ℕ → Cause → Cause

@@ -18,6 +18,7 @@ mod conditions;
 mod difference;
 mod each;
 mod earliest;
+mod ended;
 mod filled;
 mod gathering;
 mod hazards;

@@ -1,7 +1,7 @@
 //! What is known of a required moment.
 
 ghost use Rattle.std.specs.Prelude.{◌≡◌, ◌++◌, OnOk};
-ghost use Rattle.td_answer.specs.Requirements.{standing_of, standing_by, requirement_of, bound_standing, is_decided, required_lines, met_lines, met_ending, has_used_up, cause_of, cause_by, ending_of_standing, ending_by};
+ghost use Rattle.td_answer.specs.Requirements.{standing_of, standing_by, requirement_of, bound_standing, is_decided, required_lines, met_lines, met_ending, cause_by, ending_of_standing, ending_by};
 
 use crate::status::Status;
 use std::alloc::AllocError;
@@ -67,48 +67,6 @@ pub(crate) fn push_required(
     match required {
         None => Ok(()),
         Some(moment) => report.add(Line::Required(moment, standing_of(moment, low, high))),
-    }
-}
-
-/// How a search ended: whether somebody asked for its end, what its budget was, and how many units
-/// of work it took.
-#[derive(Clone, Copy, Debug, Drop)]
-pub(crate) struct Ended {
-    pub was_asked: bool,
-    pub budget: u64,
-    pub work: u64,
-}
-
-impl Ended {
-    /// Whether this many nodes and the units of work reach the budget together.
-    fn has_used_up(self, nodes: u64) -> bool
-        ensures { result ≡ has_used_up self nodes }
-    {
-        self.budget.saturating_sub(nodes) <= self.work
-    }
-}
-
-/// Why a search ended that handled so many nodes: for its budget only where that was used up; else
-/// it had nothing more to try. Where its stop was set, it tells whether somebody asked for that.
-pub(crate) fn cause_of(cause: td_search::Cause, nodes: u64, ended: Ended) -> Cause
-    ensures { result ≡ cause_of ended nodes cause }
-{
-    match cause {
-        td_search::Cause::Budget => {
-            if ended.has_used_up(nodes) {
-                Cause::Budget
-            } else {
-                Cause::Effort
-            }
-        }
-        td_search::Cause::Memory => Cause::Memory,
-        td_search::Cause::Time => {
-            if ended.was_asked {
-                Cause::Stop
-            } else {
-                Cause::Time
-            }
-        }
     }
 }
 

@@ -21,12 +21,12 @@ ghost use Rattle.td_answer.specs.Writing.{CanBeWritten};
 use crate::answers::{ending_of, pair_in, report_of};
 use crate::beside::push_run;
 use crate::certifying::{Read, certificate};
+use crate::ended::Ended;
 use crate::kept::worst_kept;
 use crate::kept_certificate::Told;
 use crate::open_certificate::{Open, open_certificate};
 use crate::outcome::{Outcome, Waves};
 use crate::refusal::Refusal;
-use crate::requirement::Ended;
 use crate::runs::run_of;
 use std::alloc::{AllocError, Global};
 use std::sync::Wait;
@@ -92,15 +92,14 @@ fn reported(
     alloc: Global,
     circuit: &Circuit,
     answer: &Answer,
-    search: &Search<'_>,
-    ended: Ended,
+    ended: Ended<'_, '_>,
 ) -> Result<Report, AllocError>
     requires first_fits { length (pair_in answer.now).first ≡ length circuit.now.netlist.inputs }
     requires second_fits { length (pair_in answer.now).second ≡ length circuit.now.netlist.inputs }
-    ensures { IfOk result (AddsLines (TellsPair search.now.shown (setting circuit.now) (pair_in answer.now)) (head_lines circuit.now.netlist ++ answer_lines ended search.now.required answer.now)) }
+    ensures { IfOk result (AddsLines (TellsPair ended.entry.search.now.shown (setting circuit.now) (pair_in answer.now)) (head_lines circuit.now.netlist ++ answer_lines ended.entry answer.now)) }
 {
-    let mut report = report_of(alloc, circuit, search.required, answer, ended)?;
-    push_run(alloc, &mut report, circuit, pair_in(answer), search.shown)?;
+    let mut report = report_of(alloc, circuit, answer, ended)?;
+    push_run(alloc, &mut report, circuit, pair_in(answer), ended.search.shown)?;
     Ok(report)
 }
 
@@ -171,8 +170,7 @@ fn outcome_of(
     default: Delay,
     strategy: Strategy,
     found: Found,
-    search: &Search<'_>,
-    ended: Ended,
+    ended: Ended<'_, '_>,
 ) -> Result<Outcome, AllocError>
     requires held { length asked.admit.held ≡ length asked.circuit.netlist.inputs }
     requires flips { asked.admit.flips ≤ length asked.admit.held }
@@ -182,13 +180,13 @@ fn outcome_of(
     requires has { has_delay (problem_by strategy asked.circuit asked.admit) (pair_in found.answer) (low_of found.answer) }
     requires ordered { low_of found.answer ≤ high_of found.answer }
     requires shown { IsSupport (setting asked.circuit) asked.admit found.support }
-    ensures report { IfOk result (λ outcome. AddsLines (TellsPair search.now.shown (setting asked.circuit) (pair_in found.answer))
-        (head_lines asked.circuit.netlist ++ answer_lines ended search.now.required found.answer) outcome.report) }
-    ensures certified { IfOk result (λ outcome. IsCertificateOf (told_with default asked.outputs asked.keep) (problem_by strategy asked.circuit asked.admit) search.now
-        found.answer outcome.certificate) }
-    ensures dumped { IfOk result (λ outcome. IsDumpWhere (is_some search.now.dump) (setting asked.circuit)
+    ensures report { IfOk result (λ outcome. AddsLines (TellsPair ended.entry.search.now.shown (setting asked.circuit) (pair_in found.answer))
+        (head_lines asked.circuit.netlist ++ answer_lines ended.entry found.answer) outcome.report) }
+    ensures certified { IfOk result (λ outcome. IsCertificateOf (told_with default asked.outputs asked.keep) (problem_by strategy asked.circuit asked.admit)
+        ended.entry.search.now found.answer outcome.certificate) }
+    ensures dumped { IfOk result (λ outcome. IsDumpWhere (is_some ended.entry.search.now.dump) (setting asked.circuit)
         (RunsPair (setting asked.circuit) (pair_in found.answer)) outcome.dump) }
-    ensures status { IfOk result (λ outcome. outcome.status ≡ ending_of search.now.required found.answer) }
+    ensures status { IfOk result (λ outcome. outcome.status ≡ ending_of ended.entry.search.now.required found.answer) }
 {
     let Asked {
         circuit,
@@ -197,7 +195,8 @@ fn outcome_of(
         keep,
         ..
     } = asked;
-    let report = reported(alloc, &circuit, &found.answer, search, ended)?;
+    let search = ended.search;
+    let report = reported(alloc, &circuit, &found.answer, ended)?;
     let status = ending_of(search.required, &found.answer);
     let pair = pair_in(&found.answer).copy(alloc)?;
     let told = Told {
@@ -248,8 +247,8 @@ pub(crate) fn worst<'n, 'w, W: Watch, R: Threads + Wait + Sync>(
     };
     let found = td_worst::worst(rt, alloc, question, limits, watch)?;
     let ended = Ended {
+        search,
         was_asked: stop.was_asked(),
-        budget: u64::from(search.effort.budget),
         work: found.work,
     };
     let outcome = outcome_of(
@@ -258,7 +257,6 @@ pub(crate) fn worst<'n, 'w, W: Watch, R: Threads + Wait + Sync>(
         reading.default,
         method.strategy(),
         found,
-        search,
         ended,
     )?;
     Ok(outcome)

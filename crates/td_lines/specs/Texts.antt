@@ -255,6 +255,7 @@ line_text (line.Cause why) = cause_line why
 line_text (line.From vector) = vector_line (codes "from ") vector
 line_text (line.To vector) = vector_line (codes "to ") vector
 line_text (line.Nodes count) = number_line (codes "nodes ") count
+line_text (line.Units count) = number_line (codes "units ") count
 line_text (line.Required moment standing) = required_line moment standing
 line_text (line.Each rows) = flat_map row_line rows.items
 line_text (line.Hazards rows) = flat_map hazard_line rows.items

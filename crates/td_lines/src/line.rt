@@ -192,6 +192,8 @@ pub enum Line {
     To(Vector),
     /// How many nodes were handled.
     Nodes(u64),
+    /// How many units of work searches by spans took.
+    Units(u64),
     /// Whether outputs settle by this moment.
     Required(u64, Standing),
     /// What is found of each output alone.

@@ -68,6 +68,7 @@ impl Printed for Line {
             Line::From(bits) => vector(out, b"from ", bits),
             Line::To(bits) => vector(out, b"to ", bits),
             Line::Nodes(count) => number(out, b"nodes ", *count),
+            Line::Units(count) => number(out, b"units ", *count),
             Line::Required(moment, standing) => required(out, *moment, *standing),
             Line::Each(rows) => all(out, rows),
             Line::Hazards(rows) => all(out, rows),
