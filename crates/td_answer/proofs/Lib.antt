@@ -18,7 +18,6 @@ pub mod Zips
 pub mod Filling
 pub mod Whole
 pub mod Cuts
-pub mod Keeping
 pub mod Writable
 pub mod Gathered
 pub mod Reporting

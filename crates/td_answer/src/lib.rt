@@ -14,7 +14,6 @@ mod certifying;
 mod changes;
 mod check;
 mod claims;
-mod conditions;
 mod difference;
 mod each;
 mod earliest;

@@ -225,25 +225,6 @@ trits_pushed second pins i count old text is some le before =
 abbrev pub behind_at : ℕ → List ℕ
 behind_at moment = codes " " ++ decimal moment
 
-kept : (c : NamedCondition) (cs : List NamedCondition) → flat_map behind_condition (c ∷ cs) ≡ codes " " ++ conditions (c ∷ cs)
-kept c [] = flat_map-cons behind_condition c [] ∙ append-nil (behind_condition c)
-kept c (d ∷ cs) =
-    flat_map-cons behind_condition c (d ∷ cs) ∙ ap (λ (t : List ℕ). behind_condition c ++ t) (kept d cs)
-    ∙ sym (append_assoc (behind_condition c) (codes " ") (conditions (d ∷ cs)))
-
-pub kept_pushed : (cs : List NamedCondition) (i : ℕ) (old text new : List ℕ) → length cs ≢ 0 → length cs ≤ i
-    → text ≡ old ++ (codes "keep" ++ flat_map behind_condition (take i cs)) → new ≡ text ++ codes "\n" → new ≡ old ++ ended (codes "keep " ++ conditions cs)
-kept_pushed [] i old text new some le before pushed = absurd (some refl)
-kept_pushed (c ∷ cs) i old text new some le before pushed =
-    pushed ∙ ap (λ (t : List ℕ). t ++ codes "\n") (before ∙ ap (λ (ds : List NamedCondition). old ++ (codes "keep" ++ flat_map behind_condition ds)) (take_all i (c ∷ cs) le)
-    ∙ ap (λ (t : List ℕ). old ++ (codes "keep" ++ t)) (kept c cs))
-    ∙ append_assoc old (codes "keep " ++ conditions (c ∷ cs)) (codes "\n")
-
-pub none_kept : (cs : List NamedCondition) (old text new : List ℕ) → length cs ≡ 0 → text ≡ old ++ codes "keep" → new ≡ text ++ codes " none\n"
-    → new ≡ old ++ ended (codes "keep " ++ conditions cs)
-none_kept [] old text new none before pushed = pushed ∙ ap (λ (t : List ℕ). t ++ codes " none\n") before ∙ append_assoc old (codes "keep") (codes " none\n")
-none_kept (c ∷ cs) old text new none before pushed = absurd (omega (arith, none))
-
 -- a space before each number
 pub spaced : (word : List ℕ) (m : ℕ) (ms : List ℕ) → word ++ flat_map behind_at (m ∷ ms) ≡ word ++ (codes " " ++ numbers (m ∷ ms))
 spaced word m ms = ap (λ (t : List ℕ). word ++ t) (all_spaced m ms)

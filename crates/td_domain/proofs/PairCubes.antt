@@ -1,12 +1,10 @@
 -- The cube in which a pair lies alone.
-use Rattle.std.proofs.Common.{◌≡◌, ◌*◌, ℕ, zero, suc, Bool, true, false, List, [], ◌∷◌, length, drop, refl, ap, subst, ◌∙◌, arith}
-use Rattle.std.specs.Prelude.{slice_get, Some}
-use Rattle.td_certificate.proofs.VectorCodes.{none_not, some_is}
+use Rattle.std.proofs.Common.{◌≡◌, ◌*◌, Bool, true, false, List, [], ◌∷◌, length, refl, ap, subst, ◌∙◌, arith}
 use Rattle.td_domain.specs.Pairs.{Pair}
 use Rattle.td_domain.specs.Cubes.{Allows, AllowsBits}
 use Rattle.td_domain.specs.Admits.{Admitted, IsAdmitted, HasAdmitted}
 use Rattle.td_domain.specs.Sheets.{known}
-use Rattle.td_checker.specs.PairCubes.{cube_of}
+use Rattle.td_domain.specs.PairCubes.{cube_of}
 
 pub long_cube : (before after : List Bool) → length before ≡ length after → length (cube_of before after) ≡ 2 * length before
 long_cube [] [] e = refl
@@ -58,8 +56,3 @@ alone admit pair e = (
       subst (IsAdmitted admit) (pair_is pair has.0 same.0 same.1) has.1,
   λ is. (pair, is, inside pair.first pair.second e),
 )
-
-rest_at : (xs : List Bool) (i : ℕ) (x : Bool) → slice_get xs i ≡ Some x → drop i xs ≡ x ∷ drop (suc i) xs
-rest_at [] i x is = none_not x is
-rest_at (y ∷ xs) zero x is = ap (λ z. z ∷ xs) (some_is y x is)
-rest_at (y ∷ xs) (suc i) x is = rest_at xs i x is

@@ -74,7 +74,7 @@ fn push_some(
 }
 
 /// Appends conditions, a space between each two, or `none`.
-fn push_conditions(text: &mut String, keep: &[NamedCondition]) -> Result<(), AllocError>
+pub(crate) fn push_conditions(text: &mut String, keep: &[NamedCondition]) -> Result<(), AllocError>
     ensures { OnOk result (string_bytes text.new ≡ string_bytes text.old ++ conditions keep.now) }
 {
     match keep.split_first() {
@@ -83,8 +83,8 @@ fn push_conditions(text: &mut String, keep: &[NamedCondition]) -> Result<(), All
     }
 }
 
-/// The words of conditions, a space between each two, or `none`.
-pub(crate) fn conditions(alloc: Global, keep: &[NamedCondition]) -> Result<String, AllocError>
+/// The words of conditions, a space between each two, or `none`. The error is out of memory.
+pub fn conditions(alloc: Global, keep: &[NamedCondition]) -> Result<String, AllocError>
     ensures { IfOk result (λ text. string_bytes text ≡ conditions keep.now) }
 {
     let mut text = String::new(alloc);

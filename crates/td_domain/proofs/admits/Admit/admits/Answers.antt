@@ -1,12 +1,12 @@
 use Rattle.std.proofs.Common.{List, sym, subst, ◌∙◌}
 use Rattle.td_domain.specs.declared.cubes.Trit.{Trit}
 use Rattle.td_domain.specs.Admits.{HasAdmitted}
-use Rattle.td_checker.proofs.PairCubes.{alone}
-use Rattle.td_checker.proofs.admitting.is_admitted.Goals as goal
+use Rattle.td_domain.proofs.PairCubes.{alone}
+use Rattle.td_domain.proofs.admits.Admit.admits.Goals as goal
 
 pub returns : goal.returns
 returns c =
-    let admit = c.args.admit.now in
+    let admit = c.args.self.now in
     let pair = c.args.pair.now in
     let one = alone admit pair (c.requires.first ∙ sym c.requires.second) in
     let any = c.any.ensures in

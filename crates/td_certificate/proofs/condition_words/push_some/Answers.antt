@@ -1,7 +1,7 @@
 use Rattle.std.specs.Prelude.{string_bytes}
 use Rattle.std.proofs.lemmas.Result.{on_ok_weaker}
-use Rattle.td_answer.proofs.Keeping.{some_pushed}
-use Rattle.td_answer.proofs.conditions.push_some.Goals as goal
+use Rattle.td_certificate.proofs.ConditionWords.{some_pushed}
+use Rattle.td_certificate.proofs.condition_words.push_some.Goals as goal
 
 pub returns : goal.returns
 returns c =
