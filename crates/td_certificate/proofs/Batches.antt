@@ -8,13 +8,12 @@ use Rattle.std.proofs.lemmas.Option.{get_or_from_slice_get}
 use Rattle.td_domain.specs.declared.cubes.Trit.{Trit}
 use Rattle.td_text.specs.Output.{Output, one_more, Sent, SentTo, SentFront, Failed}
 use Rattle.td_text.proofs.Outputs.{Sent-then, Sent-failed, SentTo-begins, SentTo-more, SentTo-front, SentTo-then, SentTo-failed, Failed-longer}
-use Rattle.td_refutation.specs.declared.conditions.NamedCondition.{NamedCondition}
 use Rattle.td_certificate.specs.declared.fault.WriteFault.{WriteFault}
 use Rattle.td_certificate.specs.declared.fault.WriteFault.TheVariants as stopping
 use Rattle.td_certificate.specs.Steps.{Refuted, or_none, steps_text, refuted_line}
 use Rattle.td_certificate.specs.Sending.{StopsIn}
 use Rattle.td_certificate.specs.declared.tree.Node.{Node}
-use Rattle.td_certificate.specs.Text.{row, bits, node_line, trit, first_trits, second_trits, numbers, condition, behind_condition, conditions}
+use Rattle.td_certificate.specs.Text.{row, bits, node_line, trit, first_trits, second_trits, numbers}
 use Rattle.td_certificate.proofs.CertificateCode.{high_text, high_lines_text, timed_lines_text, claim_text, claim_lines_text, head_text}
 use Rattle.std.proofs.lemmas.Fmt.{decimal_digit}
 use Rattle.td_certificate.specs.Questions.{Terms}
