@@ -10,7 +10,7 @@ ghost use Rattle.td_answer.specs.Claims.{accepted_line, claimed_line, field_line
 
 use crate::pins::{marks, trits};
 use std::alloc::{AllocError, Global};
-use td_certificate::{Certificate, Claim, Question, Terms, Version, conditions};
+use td_certificate::{Certificate, Claim, Question, Terms, Version, conditions_text};
 use td_lines::{Label, Line, Moments, Report};
 
 /// The line of the time of an accepted certificate, and of its other moment where that is another
@@ -193,7 +193,7 @@ fn tell_keep(alloc: Global, report: &mut Report, question: &Question) -> Result<
     if keep.is_empty() {
         return Ok(());
     }
-    let row = conditions(alloc, keep)?;
+    let row = conditions_text(alloc, keep)?;
     report.add(Line::Keep(Label::new(row)))
 }
 

@@ -84,7 +84,7 @@ pub(crate) fn push_conditions(text: &mut String, keep: &[NamedCondition]) -> Res
 }
 
 /// The words of conditions, a space between each two, or `none`. The error is out of memory.
-pub fn conditions(alloc: Global, keep: &[NamedCondition]) -> Result<String, AllocError>
+pub fn conditions_text(alloc: Global, keep: &[NamedCondition]) -> Result<String, AllocError>
     ensures { IfOk result (λ text. string_bytes text ≡ conditions keep.now) }
 {
     let mut text = String::new(alloc);
