@@ -1,5 +1,5 @@
 -- The waves that are kept are those of each run of the netlist.
-use Rattle.std.proofs.Common.{◌≡◌, ℕ, zero, suc, ◌+◌, ◌*◌, ◌<◌, List, [], ◌∷◌, length, map, get_or, refl, arith, sym, ap, ◌∙◌, subst, Bool, true, false, Option, Some, None}
+use Rattle.std.proofs.Common.{◌≡◌, ℕ, zero, suc, ◌<◌, List, [], ◌∷◌, length, map, get_or, refl, arith, sym, ap, ◌∙◌, subst, Bool, true, false, Option, Some, None}
 use Rattle.std.specs.Prelude.{slice_get}
 use Rattle.std.specs.List.{All}
 use Rattle.std.proofs.lemmas.List.{length-map}
@@ -15,7 +15,7 @@ use Rattle.td_circuit.specs.Run.{Runs}
 use Rattle.td_circuit.specs.NetValues.{net_wave}
 use Rattle.td_circuit.proofs.Nets.{few_gates}
 use Rattle.td_run.specs.Waves.{AreWithin, constant}
-use Rattle.td_run.specs.Keeping.{KeptWaves, last_moment, wanted_waves, IsKeptOf, AreLater, AreEnds, IsLeftUpTo}
+use Rattle.td_run.specs.Keeping.{last_moment, wanted_waves, IsKeptOf, AreLater, AreEnds, IsLeftUpTo}
 use Rattle.td_run.proofs.Named.{is_run, only_numbers, same_length}
 use Rattle.td_run.proofs.Gates.{all_small}
 use Rattle.td_run.proofs.Dropping.{left_within}

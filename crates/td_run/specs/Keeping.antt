@@ -1,5 +1,5 @@
 -- What is kept of a run: the waves of chosen nets, and of each net the moment of its last change.
-use Rattle.std.specs.Prelude.{◌≡◌, ℕ, ◌+◌, ◌*◌, ◌<◌, List, [], ◌∷◌, map, length, Bool, true, false, Option, Some, None, unwrap_or, slice_get, slice_index_or, if◌then◌else◌}
+use Rattle.std.specs.Prelude.{◌≡◌, ℕ, ◌+◌, ◌<◌, List, [], ◌∷◌, map, length, Bool, true, false, Option, Some, None, unwrap_or, slice_get, slice_index_or, if◌then◌else◌}
 use Rattle.std.specs.List.{All}
 use Rattle.td_gates.specs.declared.primitives.Level.{Level}
 use Rattle.td_gates.specs.declared.primitives.Level.TheVariants.{X}

@@ -79,13 +79,7 @@ fn drop_wave(alloc: Global, waves: &mut [Wave], ends: &[usize], net: usize, eval
 }
 
 /// Drops the waves of these nets that may be dropped after so many gates.
-fn drop_waves(
-    alloc: Global,
-    waves: &mut [Wave],
-    ends: &[usize],
-    nets: &[u32],
-    evaluated: usize,
-)
+fn drop_waves(alloc: Global, waves: &mut [Wave], ends: &[usize], nets: &[u32], evaluated: usize)
     requires waves { All (λ net. net < length waves.old) nets.now }
     requires ends { length waves.old ≤ length ends.now }
     ensures { HasLeft ends.now evaluated waves.old waves.new }

@@ -1,12 +1,9 @@
-use Rattle.std.proofs.Common.{◌≡◌, ◌<◌, ◌≤◌, ◌+◌, ◌++◌, ◌∷◌, ◌∙◌, ℕ, [], List, ap, sym, subst, arith, map, take, drop, length, suc, Some}
-use Rattle.std.specs.Prelude.{slice_get}
-use Rattle.std.specs.List.{All}
+use Rattle.std.proofs.Common.{◌≡◌, ◌+◌, ◌++◌, ◌∷◌, ◌∙◌, ℕ, [], List, ap, sym, subst, arith, map, take, drop, length, suc}
 use Rattle.std.proofs.lemmas.List.{length_push}
 use Rattle.td_gates.specs.Wave.{Wave}
 use Rattle.td_circuit.specs.Views.{gate_of}
 use Rattle.td_circuit.proofs.Nets.{lower-at}
 use Rattle.td_run.specs.Runs.{first_waves}
-use Rattle.td_run.specs.Waves.{waves_of}
 use Rattle.td_run.specs.Keeping.{last_moment, HasLeft, IsLeftUpTo}
 use Rattle.td_run.proofs.Placed.{count_same, gate_at_place}
 use Rattle.td_run.proofs.Dropping.{written, left_start, left_count, left_room, left_end, left_step}

@@ -1,4 +1,4 @@
-use Rattle.std.proofs.Common.{◌≡◌, ◌∙◌, get_or, arith}
+use Rattle.std.proofs.Common.{◌∙◌, get_or, arith}
 use Rattle.std.proofs.lemmas.List.{length-set, take_all}
 use Rattle.td_run.proofs.Dropping.{set_later, put_step}
 use Rattle.td_run.proofs.kept.put_off.Goals as goal
