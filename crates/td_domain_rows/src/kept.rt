@@ -7,8 +7,8 @@ use td_gates::Level;
 use td_run::{kept_waves, waves};
 use td_text::MemorySink;
 
-/// A rise of a at 0: b rises at 1, c falls at 3, and y falls at 1 and rises at 4. The constants come
-/// first, then a, b, c and y.
+/// Where a rises at 0, b rises at 1, c falls at 3, and y falls at 1 and rises at 4. The constants
+/// come first, then a, b, c and y.
 const GATES: &str = "buf #1 n(b,a); not #2 m(c,b); xor #1 g(y,a,c);";
 
 #[test]
@@ -50,7 +50,7 @@ fn chosen_waves_are_dumped(rt: HostRuntime) -> Result<(), Fail> {
     assert_eq!(rt;
         sink.bytes(),
         b"$version tdelay 1 $end
-$timescale 1 ps $end
+$timescale 1 ns $end
 $scope module t $end
 $var wire 1 ! y $end
 $var wire 1 \" b $end

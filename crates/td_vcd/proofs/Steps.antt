@@ -1,10 +1,11 @@
 -- One turn of each loop.
 use Rattle.std.proofs.Common.{◌≡◌, ℕ, suc, ◌+◌, ◌<◌, ◌≤◌, List, [], ◌∷◌, ◌++◌, length, map, take, drop, get_or, refl, arith, sym, ap, ◌∙◌, append_assoc, append-nil}
-use Rattle.std.specs.Prelude.{Bor}
+use Rattle.std.specs.Borrow.{Bor}
 use Rattle.std.specs.List.{All}
 use Rattle.std.proofs.lemmas.List.{length-map, map-append, take_more, take_all, drop_more, drop_all, get_or-map}
 use Rattle.std.proofs.lemmas.List.Elements.{All-nil, All-append, All-map, All-head, All-tail}
 use Rattle.std.proofs.lemmas.List.Concat.{flat_map-append}
+use Rattle.td_gates.specs.declared.primitives.Level.{Level}
 use Rattle.td_gates.specs.declared.primitives.Level.TheVariants.{Zero}
 use Rattle.td_gates.specs.declared.timing.Change.{Change}
 use Rattle.td_gates.specs.Wave.{Wave}
@@ -12,7 +13,7 @@ use Rattle.td_nets.specs.Netlist.{Name, Netlist}
 use Rattle.td_run.specs.Waves.{AreWithin}
 use Rattle.td_run.proofs.Turning.{change_origin}
 use Rattle.td_vcd.specs.declared.events.Event.{Event}
-use Rattle.td_vcd.specs.Text.{Line, ended, text_of, numbered, time_number, event_of, events_from, dump_head, declaration, start_line, dump_begins, dump_ends, change_lines, dump_lines, named_dump}
+use Rattle.td_vcd.specs.Text.{Line, Sets, ended, text_of, numbered, time_number, event_of, events_from, dump_head, declaration, start_line, dump_begins, dump_ends, change_lines, dump_lines, named_dump}
 use Rattle.td_vcd.specs.Walks.{event_lines, lines_from}
 
 -- ---- lines that are numbered
@@ -48,7 +49,7 @@ lines_end number events i past = rw (drop_all i events past) refl
 
 -- ---- the events of the variables
 
-pub events_step : (waves : List Wave) (events whole : List Event) (i : ℕ) (wave : Wave) → i < length waves → get_or waves i wave ≡ wave
+events_step : (waves : List Wave) (events whole : List Event) (i : ℕ) (wave : Wave) → i < length waves → get_or waves i wave ≡ wave
     → events ++ events_from i (drop i waves) ≡ whole
     → (events ++ map (event_of i) wave.changes) ++ events_from (i + 1) (drop (i + 1) waves) ≡ whole
 events_step waves events whole i wave inside is kept =
@@ -67,8 +68,26 @@ waves_behind refs = map (λ (wave : Bor Wave). wave.now) refs
 pub count_behind : (refs : List (Bor Wave)) → length (waves_behind refs) ≡ length refs
 count_behind refs = length-map refs (λ (wave : Bor Wave). wave.now)
 
-pub wave_behind : (refs : List (Bor Wave)) (i : ℕ) (d : Bor Wave) → i < length refs → get_or (waves_behind refs) i (get_or refs i d).now ≡ (get_or refs i d).now
-wave_behind refs i d inside = get_or-map (λ (wave : Bor Wave). wave.now) refs i d (get_or refs i d).now inside
+wave_behind : (refs : List (Bor Wave)) (i : ℕ) (ref : Bor Wave) → i < length refs → ref ≡ get_or refs i ref
+    → get_or (waves_behind refs) i ref.now ≡ ref.now
+wave_behind refs i ref inside is =
+    get_or-map (λ (wave : Bor Wave). wave.now) refs i ref ref.now inside ∙ ap (λ (wave : Bor Wave). wave.now) (sym is)
+
+-- one more wave's changes
+pub events_next : (refs : List (Bor Wave)) (events whole : List Event) (i : ℕ) (ref : Bor Wave) → i < length refs → ref ≡ get_or refs i ref
+    → events ++ events_from i (drop i (waves_behind refs)) ≡ whole
+    → (events ++ map (event_of i) ref.now.changes) ++ events_from (i + 1) (drop (i + 1) (waves_behind refs)) ≡ whole
+events_next refs events whole i ref inside is kept =
+    events_step (waves_behind refs) events whole i ref.now (omega (arith, inside, count_behind refs)) (wave_behind refs i ref inside is) kept
+
+-- one more wave's level at the start
+pub start_step : (refs : List (Bor Wave)) (i : ℕ) (ref : Bor Wave) (level : Level) → i < length refs → ref ≡ get_or refs i ref
+    → level ≡ ref.now.start
+    → text_of (numbered start_line i (drop i (waves_behind refs)))
+    ≡ ended (Sets i level) ++ text_of (numbered start_line (i + 1) (drop (i + 1) (waves_behind refs)))
+start_step refs i ref level inside is starts =
+    numbered_step start_line (waves_behind refs) i ref.now (omega (arith, inside, count_behind refs)) (wave_behind refs i ref inside is)
+    ∙ ap (λ (l : Level). ended (Sets i l) ++ text_of (numbered start_line (i + 1) (drop (i + 1) (waves_behind refs)))) (sym starts)
 
 -- one more reference to a wave
 pub refs_step : (f : ℕ → Wave) (nets : List ℕ) (i : ℕ) (refs grown : List (Bor Wave)) (ref : Bor Wave) → i < length nets

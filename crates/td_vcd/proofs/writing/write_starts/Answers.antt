@@ -3,14 +3,18 @@ use Rattle.std.proofs.lemmas.Result.{err_from_is_err_and}
 use Rattle.td_text.proofs.Outputs.{SentTo-begins}
 use Rattle.td_vcd.specs.Text.{start_line}
 use Rattle.td_vcd.proofs.Batches.{turn, space, whole, refused_batch, refused_growth}
-use Rattle.td_vcd.proofs.Steps.{numbered_step, numbered_end, waves_behind, count_behind, wave_behind}
+use Rattle.td_vcd.proofs.Steps.{numbered_end, start_step, waves_behind, count_behind}
 use Rattle.td_vcd.proofs.writing.write_starts.Goals as goal
 
 pub loop-variable-init : goal.loop-variable-init
 loop-variable-init g c = SentTo-begins _ _
 
 pub loop-variable-preserved : goal.loop-variable-preserved
-loop-variable-preserved g c = let a = c.start.ensures in let b = c.in_ok-level.ensures in ?
+loop-variable-preserved g c =
+    turn _ _ _ _ _ _ _ _ _ _ c.loop-variable.invariant c.in_ok-make_space.ensures.ok
+    (start_step c.args.waves.now c.loop-variable.variable c.index-waves-variable.result c.start.result c.loop-variable-test.true
+    c.index-waves-variable.is c.start.ensures)
+    c.in_ok-level.ensures
 
 pub returns-in_err-make_space-clause-refused : goal.returns-in_err-make_space-clause-refused
 returns-in_err-make_space-clause-refused g c =
