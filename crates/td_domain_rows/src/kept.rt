@@ -46,7 +46,10 @@ fn chosen_waves_are_dumped(rt: HostRuntime) -> Result<(), Fail> {
     let kept = kept_waves(alloc, &circuit, &[Level::Zero], &[Level::One], &wanted)?;
     assert!(rt; kept.wave(5).is_some() && kept.wave(3).is_some());
     let mut sink = MemorySink::new(alloc, 1000, 1000)?;
-    assert_eq!(rt; td_vcd::write_chosen(alloc, &mut sink, &circuit, &kept, &[5, 3]), Ok(()));
+    assert_eq!(rt;
+        td_vcd::write_chosen(alloc, &mut sink, &circuit, &kept, &[5, 3]),
+        Ok(())
+    );
     assert_eq!(rt;
         sink.bytes(),
         b"$version tdelay 1 $end
@@ -66,7 +69,8 @@ $end
 1\"
 #5
 1!
-".as_slice()
+"
+            .as_slice()
     );
     Ok(())
 }

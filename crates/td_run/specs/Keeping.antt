@@ -22,7 +22,8 @@ last_moment wave = unwrap_or (last wave) 0
 
 -- the waves that are wanted
 abbrev pub wanted_waves : List Bool → List Wave → List (Option Wave)
-wanted_waves (wanted ∷ others) (wave ∷ waves) = (if wanted then Some wave else None) ∷ wanted_waves others waves
+wanted_waves (wanted ∷ others) (wave ∷ waves) =
+    (if wanted then Some wave else None) ∷ wanted_waves others waves
 wanted_waves wanted waves = []
 
 -- of the run of these nets the wanted ones are kept, and the moment of each net's last change
@@ -46,7 +47,8 @@ first_end gates wanted = if wanted then gates + 1 else 0
 
 -- a wanted net's wave may not be dropped after so many gates
 abbrev pub AreLater : List Bool → ℕ → List ℕ → Type 0
-AreLater wanted evaluated ends = (net : ℕ) → slice_index_or wanted net false ≡ true → evaluated < slice_index_or ends net 0
+AreLater wanted evaluated ends = (net : ℕ) → slice_index_or wanted net false ≡ true
+    → evaluated < slice_index_or ends net 0
 
 -- the same of the first gates
 pub record AreEndsUpTo (circuit : Numbered) (wanted : List Bool) (place : ℕ) (ends : List ℕ) : Type 0 where
@@ -58,7 +60,8 @@ pub record AreEndsUpTo (circuit : Numbered) (wanted : List Bool) (place : ℕ) (
 -- after so many gates the new waves are the old ones, but for those that may be dropped
 pub record HasLeft (ends : List ℕ) (evaluated : ℕ) (old new : List Wave) : Type 0 where
   pub count : length new ≡ length old
-  pub within : (bound : ℕ) → All (λ wave. AreWithin bound wave.changes) old → All (λ wave. AreWithin bound wave.changes) new
+  pub within : (bound : ℕ) → All (λ wave. AreWithin bound wave.changes) old
+      → All (λ wave. AreWithin bound wave.changes) new
   pub same : (net : ℕ) → evaluated < slice_index_or ends net 0
       → slice_index_or new net (constant X) ≡ slice_index_or old net (constant X)
 

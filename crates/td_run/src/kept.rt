@@ -1,6 +1,7 @@
 //! A run that keeps the waves of chosen nets only, and of each net the moment of its last change.
 
-ghost use Rattle.std.specs.Prelude.{◌≡◌, ℕ, ◌<◌, ◌≤◌, length, map, slice_get, slice_index_or, Some, IfOk};
+ghost use Rattle.std.specs.Prelude.{◌≡◌, ℕ, ◌<◌, ◌≤◌, length, map, slice_get, slice_index_or};
+ghost use Rattle.std.specs.Prelude.{Some, IfOk};
 ghost use Rattle.std.specs.List.{All};
 ghost use Rattle.td_gates.specs.Wave.{Wave as WaveModel};
 ghost use Rattle.td_nets.specs.Netlist.{Net};
@@ -55,7 +56,8 @@ fn first_ends(alloc: Global, wanted: &[bool], gates: usize) -> Result<Vec<usize>
 fn ends_of(alloc: Global, circuit: &Circuit, wanted: &[bool]) -> Result<Vec<usize>, AllocError>
     requires { length wanted.now ≡ length (nets circuit.now) }
     ensures ends { IfOk result (λ ends. AreEnds circuit.now ends.items) }
-    ensures wanted { IfOk result (λ ends. AreLater wanted.now (length circuit.now.gates) ends.items) }
+    ensures wanted { IfOk result (λ ends.
+        AreLater wanted.now (length circuit.now.gates) ends.items) }
 {
     let gates = circuit.gates();
     let mut ends = first_ends(alloc, wanted, gates.len())?;
@@ -65,8 +67,8 @@ fn ends_of(alloc: Global, circuit: &Circuit, wanted: &[bool]) -> Result<Vec<usiz
     Ok(ends)
 }
 
-/// Drops the wave of a net, if it may be dropped after so many gates. A wave without a change stands
-/// in its place.
+/// Drops the wave of a net, if it may be dropped after so many gates. A wave without a change then
+/// stands in its place.
 fn drop_wave(alloc: Global, waves: &mut [Wave], ends: &[usize], net: usize, evaluated: usize)
     requires wave { net < length waves.old }
     requires end { net < length ends.now }
@@ -159,7 +161,10 @@ impl Model for Kept {
 
     ghost Value = { KeptWaves };
 
-    ghost view = { λ inside. record { waves = wanted_waves inside.wanted.items inside.waves.items; lasts = inside.lasts.items } };
+    ghost view = { λ inside. record {
+      waves = wanted_waves inside.wanted.items inside.waves.items;
+      lasts = inside.lasts.items;
+    } };
 
     ghost invariant = { λ inside. length inside.waves.items ≡ length inside.wanted.items };
 }
@@ -207,13 +212,15 @@ pub fn kept_waves(
 
     // There is a run of which this is kept, and it is what each run would leave.
     ensures runs { IfOk result (λ kept. (waves : Net → WaveModel)
-        × Runs (setting circuit.now) first.now second.now waves × IsKeptOf (nets circuit.now) waves wanted.now kept) }
-    ensures only { IfOk result (λ kept. (other : Net → WaveModel) → Runs (setting circuit.now) first.now second.now other
+        × Runs (setting circuit.now) first.now second.now waves
+        × IsKeptOf (nets circuit.now) waves wanted.now kept) }
+    ensures only { IfOk result (λ kept. (other : Net → WaveModel)
+        → Runs (setting circuit.now) first.now second.now other
         → IsKeptOf (nets circuit.now) other wanted.now kept) }
 
     // No change is later than any run's may be.
-    ensures small { IfOk result (λ kept. (net : ℕ) (wave : WaveModel) → slice_get kept.waves net ≡ Some (Some wave)
-        → AreWithin 200001000000000 wave.changes) }
+    ensures small { IfOk result (λ kept. (net : ℕ) (wave : WaveModel)
+        → slice_get kept.waves net ≡ Some (Some wave) → AreWithin 200001000000000 wave.changes) }
     ensures count { IfOk result (λ kept. length kept.waves ≡ length (nets circuit.now)) }
     ensures lasts_count { IfOk result (λ kept. length kept.lasts ≡ length (nets circuit.now)) }
 {

@@ -58,8 +58,10 @@ fn sort(events: &mut Vec<Event>) -> Result<(), AllocError>
 /// The changes of the variables that have these waves in the order of their moments, and those of
 /// one moment in the order of the variables.
 pub fn events(alloc: Global, waves: &[&Wave]) -> Result<Vec<Event>, AllocError>
-    requires { All (λ wave. AreWithin 200001000000000 wave.changes) (map (λ wave. wave.now) waves.now) }
-    ensures lines { IfOk result (λ events. lines_from 0 events.items ≡ change_lines (events_from 0 (map (λ wave. wave.now) waves.now))) }
+    requires { All (λ wave. AreWithin 200001000000000 wave.changes)
+        (map (λ wave. wave.now) waves.now) }
+    ensures lines { IfOk result (λ events. lines_from 0 events.items
+        ≡ change_lines (events_from 0 (map (λ wave. wave.now) waves.now))) }
     ensures small { IfOk result (λ events. All (λ event. event.moment ≤ 200001000000000) events.items) }
 {
     let mut events = events_of(alloc, waves)?;

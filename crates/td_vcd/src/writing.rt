@@ -37,7 +37,8 @@ fn variable_nets(alloc: Global, circuit: &Circuit) -> Result<Vec<u32>, AllocErro
 /// The waves of these nets in a run.
 fn run_waves<'r>(alloc: Global, run: &'r Run, nets: &[u32]) -> Result<Vec<&'r Wave>, AllocError>
     requires { All (λ net. net < length run.now.waves) nets.now }
-    ensures { IfOk result (λ waves. map (λ wave. wave.now) waves.items ≡ waves_of run.now.waves nets.now) }
+    ensures { IfOk result (λ waves.
+        map (λ wave. wave.now) waves.items ≡ waves_of run.now.waves nets.now) }
 {
     let mut waves = Vec::new(alloc);
     for net in nets {
@@ -64,7 +65,8 @@ fn chosen_waves<'k>(
     chosen: &[u32],
 ) -> Result<Vec<&'k Wave>, AllocError>
     requires { All (CanBeChosen kept.now) chosen.now }
-    ensures { IfOk result (λ waves. map (λ wave. wave.now) waves.items ≡ kept_of kept.now chosen.now) }
+    ensures { IfOk result (λ waves.
+        map (λ wave. wave.now) waves.items ≡ kept_of kept.now chosen.now) }
 {
     let mut waves = Vec::new(alloc);
     for net in chosen {
@@ -103,11 +105,7 @@ fn write_declarations<W: Sink>(
 }
 
 /// Writes the settled level of each variable.
-fn write_starts<W: Sink>(
-    out: &mut W,
-    batch: &mut Batch,
-    waves: &[&Wave],
-) -> Result<(), VcdFault>
+fn write_starts<W: Sink>(out: &mut W, batch: &mut Batch, waves: &[&Wave]) -> Result<(), VcdFault>
     ensures written { OnOk result (SentTo (W.output out.old) (W.output out.new)
         (batch.old ++ text_of (numbered start_line 0 (map (λ wave. wave.now) waves.now))) batch.new) }
     ensures refused { IfErr result (λ fault. IsRefused fault (W.output out.old) (W.output out.new)
@@ -162,9 +160,11 @@ fn write_lines<W: Sink>(
     requires nets { All (IsNamed circuit.now) nets.now }
     requires small { All (λ event. event.moment ≤ 200001000000000) events.now }
     ensures written { OnOk result (Sent (W.output out.old) (W.output out.new)
-        (batch ++ body_text (names_of circuit.now nets.now) (map (λ wave. wave.now) waves.now) events.now)) }
+        (batch ++ body_text (names_of circuit.now nets.now) (map (λ wave. wave.now) waves.now)
+        events.now)) }
     ensures refused { IfErr result (λ fault. IsRefused fault (W.output out.old) (W.output out.new)
-        (batch ++ body_text (names_of circuit.now nets.now) (map (λ wave. wave.now) waves.now) events.now)) }
+        (batch ++ body_text (names_of circuit.now nets.now) (map (λ wave. wave.now) waves.now)
+        events.now)) }
 {
     write_declarations(out, &mut batch, circuit, nets)?;
     batch.push(b"$upscope $end\n$enddefinitions $end\n#0\n$dumpvars\n")?;
@@ -184,11 +184,14 @@ fn write_variables<W: Sink>(
     waves: &[&Wave],
 ) -> Result<(), VcdFault>
     requires nets { All (IsNamed circuit.now) nets.now }
-    requires small { All (λ wave. AreWithin 200001000000000 wave.changes) (map (λ wave. wave.now) waves.now) }
+    requires small { All (λ wave. AreWithin 200001000000000 wave.changes)
+        (map (λ wave. wave.now) waves.now) }
     ensures written { OnOk result (Sent (W.output out.old) (W.output out.new)
-        (named_dump circuit.now.netlist (names_of circuit.now nets.now) (map (λ wave. wave.now) waves.now))) }
+        (named_dump circuit.now.netlist (names_of circuit.now nets.now)
+        (map (λ wave. wave.now) waves.now))) }
     ensures refused { IfErr result (λ fault. IsRefused fault (W.output out.old) (W.output out.new)
-        (named_dump circuit.now.netlist (names_of circuit.now nets.now) (map (λ wave. wave.now) waves.now))) }
+        (named_dump circuit.now.netlist (names_of circuit.now nets.now)
+        (map (λ wave. wave.now) waves.now))) }
 {
     let events = events(alloc, waves)?;
     let mut batch = Batch::new(alloc);
@@ -230,8 +233,10 @@ pub fn write_chosen<W: Sink>(
 ) -> Result<(), VcdFault>
     requires kept { IsKeptFor circuit.now kept.now }
     requires chosen { All (CanBeChosen kept.now) chosen.now }
-    ensures written { OnOk result (Sent (W.output out.old) (W.output out.new) (chosen_dump circuit.now kept.now chosen.now)) }
-    ensures refused { IfErr result (λ fault. IsRefused fault (W.output out.old) (W.output out.new) (chosen_dump circuit.now kept.now chosen.now)) }
+    ensures written { OnOk result (Sent (W.output out.old) (W.output out.new)
+        (chosen_dump circuit.now kept.now chosen.now)) }
+    ensures refused { IfErr result (λ fault. IsRefused fault (W.output out.old) (W.output out.new)
+        (chosen_dump circuit.now kept.now chosen.now)) }
 {
     let waves = chosen_waves(alloc, kept, chosen)?;
     let waves = waves.as_slice();
