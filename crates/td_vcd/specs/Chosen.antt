@@ -1,6 +1,5 @@
 -- The variables of a dump of chosen nets.
 use Rattle.std.specs.Prelude.{◌≡◌, ◌<◌, ℕ, List, [], map, length, None, Some, unwrap_or, slice_get, slice_index_or}
-use Rattle.std.specs.List.{All}
 use Rattle.td_gates.specs.Wave.{Wave}
 use Rattle.td_nets.specs.Netlist.{Name, Net, Low, High, Named}
 use Rattle.td_circuit.specs.Numbering.{Numbered, nets}
