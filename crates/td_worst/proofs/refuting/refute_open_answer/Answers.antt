@@ -6,7 +6,7 @@ use Rattle.td_worst.proofs.refuting.refute_open_answer.Goals as goal
 pub refuted-answer-requires : goal.refuted-answer-requires
 refuted-answer-requires g c = record {
   small = best_small (problem_of c.args.problem.now) c.args.budget _
-      (with_best (problem_of c.args.problem.now) c.args.budget c.args.known _ c.requires.known c.search.ensures.best);
+      (with_best (problem_of c.args.problem.now) c.args.budget c.args.known _ c.requires.known c.search-found.ensures.best);
 }
 
 pub returns-in-Ok-Some-clause-answer : goal.returns-in-Ok-Some-clause-answer
@@ -17,8 +17,8 @@ returns-in-Ok-Some-clause-answer g c =
       held = c.args.problem.now.held;
       pins = c.pins-pins.ensures.fit;
       moments = c.moments-moments.ensures.fit;
-    }) (with_best (problem_of c.args.problem.now) c.args.budget c.args.known _ c.requires.known c.search.ensures.best)
-    (rw (c.in-Ok-Some.is, c.in-Ok-Some.field-0-is) at c.search.ensures.shown)).0
+    }) (with_best (problem_of c.args.problem.now) c.args.budget c.args.known _ c.requires.known c.search-found.ensures.best)
+    (rw (c.in-Ok-Some.is, c.in-Ok-Some.field-0-is) at c.search-found.ensures.shown)).0
 
 pub returns-in-Ok-Some-clause-text : goal.returns-in-Ok-Some-clause-text
 returns-in-Ok-Some-clause-text g c =
@@ -28,23 +28,23 @@ returns-in-Ok-Some-clause-text g c =
       held = c.args.problem.now.held;
       pins = c.pins-pins.ensures.fit;
       moments = c.moments-moments.ensures.fit;
-    }) (with_best (problem_of c.args.problem.now) c.args.budget c.args.known _ c.requires.known c.search.ensures.best)
-    (rw (c.in-Ok-Some.is, c.in-Ok-Some.field-0-is) at c.search.ensures.shown)).1
+    }) (with_best (problem_of c.args.problem.now) c.args.budget c.args.known _ c.requires.known c.search-found.ensures.best)
+    (rw (c.in-Ok-Some.is, c.in-Ok-Some.field-0-is) at c.search-found.ensures.shown)).1
 
 pub returns-in-Ok-Some-clause-high : goal.returns-in-Ok-Some-clause-high
 returns-in-Ok-Some-clause-high g c =
-    rw c.with_steps.ensures.answer (c.refuted-answer.ensures.high (c.requires.known.high c.search.new.best.pair c.search.new.best.time
-    c.search.ensures.best.admitted c.search.ensures.best.delay))
+    rw c.with_steps.ensures.answer (c.refuted-answer.ensures.high (c.requires.known.high c.search-found.new.best.pair c.search-found.new.best.time
+    c.search-found.ensures.best.admitted c.search-found.ensures.best.delay))
 
 pub returns-in-Ok-Some-clause-time : goal.returns-in-Ok-Some-clause-time
-returns-in-Ok-Some-clause-time g c = rw c.with_steps.ensures.answer (c.refuted-answer.ensures.time c.args.effort.stop.now.can_be_set c.search.ensures.cause)
+returns-in-Ok-Some-clause-time g c = rw c.with_steps.ensures.answer (c.refuted-answer.ensures.time c.args.effort.stop.now.can_be_set c.search-found.ensures.cause)
 
 pub returns-in-Ok-None-clause-answer : goal.returns-in-Ok-None-clause-answer
 returns-in-Ok-None-clause-answer g c =
-    rw (c.of.ensures.answer, c.between.ensures) (reported_between (problem_of c.args.problem.now) c.args.budget _ c.search.result.why
-    (with_best (problem_of c.args.problem.now) c.args.budget c.args.known _ c.requires.known c.search.ensures.best)).0
+    rw (c.of.ensures.answer, c.between.ensures) (reported_between (problem_of c.args.problem.now) c.args.budget _ c.search-found.result.why
+    (with_best (problem_of c.args.problem.now) c.args.budget c.args.known _ c.requires.known c.search-found.ensures.best)).0
 
 pub returns-in-Err-clause-answer : goal.returns-in-Err-clause-answer
 returns-in-Err-clause-answer g c =
     rw (c.of-in-Err.ensures.answer, c.between-in-Err.ensures) (reported_between (problem_of c.args.problem.now) c.args.budget _ Memory
-    (with_best (problem_of c.args.problem.now) c.args.budget c.args.known _ c.requires.known c.search.ensures.best)).0
+    (with_best (problem_of c.args.problem.now) c.args.budget c.args.known _ c.requires.known c.search-found.ensures.best)).0
