@@ -80,8 +80,8 @@ fn searched<'n, 'w, R: Threads + Wait + Sync>(
             keep,
             required: search.required,
         };
-        let found = td_worst::worst_kept(rt, alloc, question, limits)?;
-        return Ok(kept_found(&found.answer));
+        let kept = td_worst::worst_kept(rt, alloc, question, limits)?;
+        return Ok(kept_found(&kept.answer));
     }
     let question = Question {
         circuit,

@@ -19,10 +19,10 @@ worst_kept-requires-clause-fit g c κs within =
 pub returns-clause-answer : goal.returns-clause-answer
 returns-clause-answer g c =
     true_answer (setting c.args.alone.circuit.now) c.args.alone.inquiry.admit.now c.in_ok-keep.keep.items
-    (condition_by c.args.alone.net c.args.settled.form ∷ c.args.alone.inquiry.keep.now) c.in_ok-keep.ensures.same c.in_ok-answer.answer
-    (rw c.deref.ensures.value at c.in_ok-answer.ensures.answer)
+    (condition_by c.args.alone.net c.args.settled.form ∷ c.args.alone.inquiry.keep.now) c.in_ok-keep.ensures.same c.in_ok-found.found.answer
+    (rw c.deref.ensures.value at c.in_ok-found.ensures.answer)
 
-pub returns-in_err-answer-clause-refusal : goal.returns-in_err-answer-clause-refusal
-returns-in_err-answer-clause-refusal g c =
-    let reported = err_from_is_err_and c.from_residual-in_err-answer.result c.from_residual-in_err-answer.ensures.1 in
-    rw (reported.1, reported.2) (unanswered (problem_by Lead c.args.alone.circuit.now c.args.alone.inquiry.admit.now) c.in_err-answer.field-0.0 c.in_err-answer.ensures.fault)
+pub returns-in_err-found-clause-refusal : goal.returns-in_err-found-clause-refusal
+returns-in_err-found-clause-refusal g c =
+    let reported = err_from_is_err_and c.from_residual-in_err-found.result c.from_residual-in_err-found.ensures.1 in
+    rw (reported.1, reported.2) (unanswered (problem_by Lead c.args.alone.circuit.now c.args.alone.inquiry.admit.now) c.in_err-found.field-0.0 c.in_err-found.ensures.fault)

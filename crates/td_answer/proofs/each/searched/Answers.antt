@@ -21,10 +21,10 @@ worst_kept-requires-clause-held g c κs within = c.requires.held
 pub worst_kept-requires-clause-fit : goal.worst_kept-requires-clause-fit
 worst_kept-requires-clause-fit g c κs within = c.requires.fit
 
-pub returns-in_err-answer-clause-refusal : goal.returns-in_err-answer-clause-refusal
-returns-in_err-answer-clause-refusal g c =
+pub returns-in_err-kept-clause-refusal : goal.returns-in_err-kept-clause-refusal
+returns-in_err-kept-clause-refusal g c =
     let reported = err_from_is_err_and c.from_residual.result c.from_residual.ensures.1 in
-    rw (reported.1, reported.2) (unanswered (problem_by Lead c.args.circuit.now c.args.inquiry.admit.now) c.in_err-answer.field-0.0 c.in_err-answer.ensures.fault)
+    rw (reported.1, reported.2) (unanswered (problem_by Lead c.args.circuit.now c.args.inquiry.admit.now) c.in_err-kept.field-0.0 c.in_err-kept.ensures.fault)
 
 pub returns-in_err-found-clause-refusal : goal.returns-in_err-found-clause-refusal
 returns-in_err-found-clause-refusal g c =
@@ -34,7 +34,7 @@ returns-in_err-found-clause-refusal g c =
 pub returns-then-not-is_empty-clause-found : goal.returns-then-not-is_empty-clause-found
 returns-then-not-is_empty-clause-found g c =
     rw c.kept_found.ensures (true_kept (setting c.args.circuit.now) (record { admit = c.args.inquiry.admit.now; keep = c.args.inquiry.keep.now })
-    c.in_ok-answer.answer c.in_ok-answer.ensures.answer)
+    c.in_ok-kept.kept.answer c.in_ok-kept.ensures.answer)
 
 pub returns-clause-found : goal.returns-clause-found
 returns-clause-found g c =
