@@ -19,6 +19,7 @@ from lib.netlists import INVERTER
 
 # Goes to the line above, and clears it.
 UP = b"\x1b[A\x1b[2K"
+ROW = rb"rows \d+ of \d+ output \S+ seconds \d+"
 LINE = rb"nodes \d+ low \d+ high \d+ open \d+ seconds \d+ rate \d+"
 REFUSED = ["sim", "t.v", "0", "01"]
 
@@ -74,6 +75,9 @@ def progress(tested):
         tested.expect(f"TERM {term}: {said!r}", True, plain.fullmatch(said) is not None)
     said = tested.run_bytes(*words).err
     tested.expect(f"a pipe: {said!r}", True, plain.fullmatch(said) is not None)
+    said = at_terminal(tested, ["worst", "adder.v", "--each", "--progress"], "xterm")
+    rows = re.fullmatch(rb"(?:" + ROW + rb"\n" + re.escape(UP) + rb"){2,}" + ROW + rb"\n", said)
+    tested.expect(f"rows in place: {said!r}", True, rows is not None)
 
 
 def hints(tested):

@@ -352,6 +352,9 @@ for. Four inputs that no gate reads make it long.
   from 000000
   to 111111
   nodes 6000
+  $ tdelay worst $NETLISTS/adder_8.v --strategy refute --progress 2>&1 > report | sed 's/ seconds [0-9]* rate [0-9]*$/ ../'
+  nodes 0 low 10 high 45 open 1 ..
+  nodes 1 low 45 high 45 open 0 ..
   $ tdelay worst long.v --strategy=least --budget=6000 --progress 2> told
   unit 1 ns
   defaulted 0

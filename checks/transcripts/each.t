@@ -98,6 +98,17 @@ As JSON, and from standard input.
   each \z+ [1] exact 5 edges 5
   each \z+ [0] exact 1 edges 1
 
+With `--progress` standard error names each output as it is begun. Standard output is as without it.
+
+  $ tdelay worst two.v --each --progress 2> told | grep -c ^each
+  3
+  $ sed 's/ seconds [0-9]*$/ ../' told
+  rows 0 of 3 output y ..
+  rows 1 of 3 output \z+ [1] ..
+  rows 2 of 3 output \z+ [0] ..
+  $ tdelay worst two.v --each --changes --json --progress 2> told | cmp - <(tdelay worst two.v --each --changes --json); wc -l < told; rm told
+  3
+
 Without outputs there is no line.
 
   $ printf "module wire_only(a); input a; endmodule" > bare.v
@@ -126,9 +137,6 @@ Options that belong to one answer: the first of them is named, and no file is re
   [2]
   $ tdelay worst nowhere.v --each --path
   tdelay: --each doesn't go together with --path: write --output NAME in place of --each
-  [2]
-  $ tdelay worst nowhere.v --each --progress
-  tdelay: --each doesn't go together with --progress: write --output NAME in place of --each
   [2]
   $ tdelay worst two.v --progress --path --each --vcd two.v --cert c --hints
   tdelay: --each doesn't go together with --cert: write --output NAME in place of --each

@@ -455,13 +455,12 @@ A file that would be written over another.
 A search that is cut short.
 
   $ cp "$NETLISTS/adder_8.v" .; tdelay worst adder_8.v --strategy least --budget 100 --hints 2>&1 | tail -n +8
-  the search ended before it was done: 100 nodes are its budget, unless `cause` is memory or time; both figures are true
+  the search used up its budget of 100 nodes and units of work; both figures are true
     help: --strategy auto, which goes on by other ways
     help: a greater --budget, at most 10000000
-    help: --workers N, as many as the machine has processors
     help: or fewer pairs: --first, --second, --hold, --flips; or `tdelay parts`
   $ tdelay worst adder_8.v --budget 0 --strategy lead --workers 2 --hints 2>&1 | tail -n +8
-  the search ended before it was done: 0 nodes are its budget, unless `cause` is memory or time; both figures are true
+  the search used up its budget of 0 nodes and units of work; both figures are true
     help: a greater --budget, at most 10000000
     help: or fewer pairs: --first, --second, --hold, --flips; or `tdelay parts`
 

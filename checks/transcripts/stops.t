@@ -151,6 +151,44 @@ A table ends, too. What is open has two figures, or none and a bound.
     help: or fewer pairs: --first, --second, --hold, --flips; or `tdelay parts`
   [3]
 
+A long simulation ends, too. Where no pair was measured by then, it is one of equal vectors, if one
+is admitted. Else the first simulation is finished.
+
+  $ cat > doubling.sh <<'END'
+  > echo 'module t (x0, y); input x0; output y;'
+  > for level in $(seq 0 $(($1 - 1))); do
+  >   echo "buf #$((2 << $1 - 1 - level)) (c$level, x$level); xor #1 (x$((level + 1)), x$level, c$level);"
+  > done
+  > echo "buf #1 (y, x$1); endmodule"
+  > END
+  $ bash doubling.sh 26 > doubling_26.v; bash doubling.sh 20 > doubling_20.v
+  $ tdelay worst doubling_26.v --stop there
+  unit 1 ns
+  defaulted 0
+  between 0 134217753
+  cause stop
+  from 0
+  to 0
+  nodes 0
+  [3]
+  $ for way in least lead refute auto; do tdelay worst doubling_26.v --seconds 0 --strategy $way -j 3 | grep between; done
+  between 0 134217753
+  between 0 134217753
+  between 0 134217753
+  between 0 134217753
+  $ tdelay worst doubling_26.v --stop there --each
+  unit 1 ns
+  defaulted 0
+  each y between 0 134217753 edges 134217753
+  [3]
+  $ tdelay worst doubling_20.v --stop there --first 0 --second 1
+  unit 1 ns
+  defaulted 0
+  exact 2097171
+  from 0
+  to 1
+  nodes 1
+
 With conditions.
 
   $ tdelay worst $NETLISTS/c17.v --keep N22=01 --stop there

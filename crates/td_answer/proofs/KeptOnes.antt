@@ -29,6 +29,8 @@ use Rattle.td_answer.specs.declared.outcome.Waves.{Waves}
 use Rattle.td_answer.specs.declared.status.Status.{Status}
 use Rattle.td_answer.specs.declared.status.Status.TheVariants as status
 use Rattle.td_answer.specs.Heads.{head_lines}
+use Rattle.td_answer.specs.declared.ended.Ended.{Ended}
+use Rattle.td_answer.specs.Ends.{work_lines}
 use Rattle.td_answer.specs.Lines.{exact_lines, between_lines, at_most_lines}
 use Rattle.td_answer.specs.Runs.{TellsPair}
 use Rattle.td_answer.specs.Additions.{AddsLines}
@@ -38,14 +40,18 @@ use Rattle.td_answer.specs.OpenCertificates.{IsWantedCertificate}
 use Rattle.td_answer.specs.Requirements.{required_lines, cause_by, ending_by}
 use Rattle.td_answer.proofs.Standing.{tells, tells_bound}
 use Rattle.td_answer.proofs.Searched.{delay_fits}
+use Rattle.td_answer.proofs.Works.{works}
 
 -- the pair has a bit in each vector for each input
 pub best_fits : (circuit : Numbered) (asking : Asking) (best : Timed) → IsTimedAmong (setting circuit) asking best
     → (length best.pair.first ≡ length circuit.netlist.inputs) × (length best.pair.second ≡ length circuit.netlist.inputs)
 best_fits circuit asking best timed = delay_fits (problem_by Lead circuit asking.admit) best.pair best.time (timed.asked.admitted, timed.delay)
 
-module _ (circuit : Numbered) (admit : Admitted) (told : Told) (search : Search) (text : List ℕ) (reading : Reading)
-    (asked : IsAskedKeeping text reading search.question (setting circuit) (record { admit = admit; keep = told.keep.items })) (outcome : Outcome) where
+module _ (circuit : Numbered) (admit : Admitted) (told : Told) (ended : Ended) (text : List ℕ) (reading : Reading)
+    (asked : IsAskedKeeping text reading ended.search.now.question (setting circuit) (record { admit = admit; keep = told.keep.items })) (outcome : Outcome) where
+  abbrev search : Search
+  search = ended.search.now
+
   abbrev asking : Asking
   asking = record { admit = admit; keep = told.keep.items }
 
@@ -70,17 +76,18 @@ module _ (circuit : Numbered) (admit : Admitted) (told : Told) (search : Search)
   }
 
   pub exact_says : (best : Timed) (tree : List Node) → IsWorstAmong (setting circuit) asking best
-      → AddsLines (TellsPair search.shown (setting circuit) best.pair) (head_lines circuit.netlist ++ exact_lines search.required best.time best.pair (length tree)) outcome.report
+      → AddsLines (TellsPair search.shown (setting circuit) best.pair) (head_lines circuit.netlist ++ exact_lines ended best.time best.pair (length tree)) outcome.report
       → outcome.status ≡ ending_by search.required status.Done best.time best.time → DumpsPair search (setting circuit) best.pair outcome.dump
       → IsTrueKept text reading search outcome
   exact_says best tree worst adds ends dumped =
-      says (exact_lines search.required best.time best.pair (length tree) ++ adds.0) (ending_by search.required status.Done best.time best.time)
-      (adds.1 ∙ append_assoc (head_lines circuit.netlist) (exact_lines search.required best.time best.pair (length tree)) adds.0) ends
+      says (exact_lines ended best.time best.pair (length tree) ++ adds.0) (ending_by search.required status.Done best.time best.time)
+      (adds.1 ∙ append_assoc (head_lines circuit.netlist) (exact_lines ended best.time best.pair (length tree)) adds.0) ends
       (inl (
         best.pair,
         record {
           time = best.time;
           nodes = length tree;
+          used = work_lines ended;
           required = required_lines search.required best.time best.time;
           more = adds.0;
           printed = refl;
@@ -88,18 +95,19 @@ module _ (circuit : Numbered) (admit : Admitted) (told : Told) (search : Search)
           greatest = worst.greatest;
           stands = tells (IsBoundAmong (setting circuit) asking) (HasDelayAmong (setting circuit) asking best.pair) more_bound status.Done search.required best.time best.time
               worst.greatest (record { asked = worst.timed.asked; delays = worst.timed.delay });
+          took = works ended;
           tells = adds.2;
         },
         dumped,
       ))
 
   pub between_says : (best : Timed) (high : ℕ) (why : Cause) → LiesBetweenAmong (setting circuit) asking best high
-      → AddsLines (TellsPair search.shown (setting circuit) best.pair) (head_lines circuit.netlist ++ between_lines search.required best.time high why best.pair 0) outcome.report
+      → AddsLines (TellsPair search.shown (setting circuit) best.pair) (head_lines circuit.netlist ++ between_lines ended best.time high why best.pair 0) outcome.report
       → outcome.status ≡ ending_by search.required status.Between best.time high → DumpsPair search (setting circuit) best.pair outcome.dump
       → IsTrueKept text reading search outcome
   between_says best high why lies adds ends dumped =
-      says (between_lines search.required best.time high why best.pair 0 ++ adds.0) (ending_by search.required status.Between best.time high)
-      (adds.1 ∙ append_assoc (head_lines circuit.netlist) (between_lines search.required best.time high why best.pair 0) adds.0) ends
+      says (between_lines ended best.time high why best.pair 0 ++ adds.0) (ending_by search.required status.Between best.time high)
+      (adds.1 ∙ append_assoc (head_lines circuit.netlist) (between_lines ended best.time high why best.pair 0) adds.0) ends
       (inr (inl (
         best.pair,
         record {
@@ -107,6 +115,7 @@ module _ (circuit : Numbered) (admit : Admitted) (told : Told) (search : Search)
           high = high;
           cause = cause_by search.required best.time high why;
           nodes = 0;
+          used = work_lines ended;
           required = required_lines search.required best.time high;
           more = adds.0;
           printed = refl;
@@ -115,23 +124,26 @@ module _ (circuit : Numbered) (admit : Admitted) (told : Told) (search : Search)
           ordered = lies.ordered;
           stands = tells (IsBoundAmong (setting circuit) asking) (HasDelayAmong (setting circuit) asking best.pair) more_bound status.Between search.required best.time high
               lies.greatest (record { asked = lies.timed.asked; delays = lies.timed.delay });
+          took = works ended;
           tells = adds.2;
         },
         dumped,
       )))
 
   pub at_most_says : (high : ℕ) (why : Cause) → IsBoundAmong (setting circuit) asking high
-      → outcome.report ≡ head_lines circuit.netlist ++ at_most_lines search.required high why → outcome.status ≡ ending_by search.required status.Between 0 high
+      → outcome.report ≡ head_lines circuit.netlist ++ at_most_lines ended high why → outcome.status ≡ ending_by search.required status.Between 0 high
       → outcome.dump ≡ None → IsTrueKept text reading search outcome
   at_most_says high why bound printed ends none =
-      says (at_most_lines search.required high why) (ending_by search.required status.Between 0 high) printed ends
+      says (at_most_lines ended high why) (ending_by search.required status.Between 0 high) printed ends
       (inr (inr (inl (
         record {
           high = high;
           cause = cause_by search.required 0 high why;
+          used = work_lines ended;
           required = required_lines search.required 0 high;
           printed = refl;
           greatest = bound;
+          took = works ended;
           stands = tells_bound (IsBoundAmong (setting circuit) asking) more_bound status.Between search.required high bound;
         },
         none,
@@ -171,7 +183,7 @@ module _ (circuit : Numbered) (admit : Admitted) (told : Told) (search : Search)
         subst (λ (c : Option Certificate). IsCertifiedAmong text reading search outcome.report c) (sym has) (shown claim tree is, tells_claim)
 
     pub exact_kept : (best : Timed) (tree : List Node) → IsCertifiedWith (setting circuit) asking (Some (claim_of best)) tree
-        → AddsLines (TellsPair search.shown (setting circuit) best.pair) (head_lines circuit.netlist ++ exact_lines search.required best.time best.pair (length tree)) outcome.report
+        → AddsLines (TellsPair search.shown (setting circuit) best.pair) (head_lines circuit.netlist ++ exact_lines ended best.time best.pair (length tree)) outcome.report
         → outcome.certificate ≡ Some (certificate (Some (claim_of best)) tree)
         → IsCertifiedAmong text reading search outcome.report outcome.certificate
     exact_kept best tree is adds has =
@@ -188,7 +200,7 @@ module _ (circuit : Numbered) (admit : Admitted) (told : Told) (search : Search)
   -- of an open answer, where it has one
   pub between_kept : AreOutputsOf text reading (option_map (λ numbers. numbers.items) told.outputs) → told.default ≡ reading.default
       → (best : Timed) (high : ℕ) (why : Cause) → IfSome outcome.certificate (IsWantedCertificate search (setting circuit) admit told best high)
-      → AddsLines (TellsPair search.shown (setting circuit) best.pair) (head_lines circuit.netlist ++ between_lines search.required best.time high why best.pair 0) outcome.report
+      → AddsLines (TellsPair search.shown (setting circuit) best.pair) (head_lines circuit.netlist ++ between_lines ended best.time high why best.pair 0) outcome.report
       → IsCertifiedAmong text reading search outcome.report outcome.certificate
   between_kept are_outputs same best high why is adds = go outcome.certificate is
     where
@@ -203,7 +215,7 @@ module _ (circuit : Numbered) (admit : Admitted) (told : Told) (search : Search)
           (shown are_outputs same has.is.spelled has.is.few (Some (claim_to best high)) has.is.tree has.is.certified, inr (has.wanted, printed))
 
   -- no certificate
-  pub open_kept : (high : ℕ) (why : Cause) → outcome.certificate ≡ None → outcome.report ≡ head_lines circuit.netlist ++ at_most_lines search.required high why
+  pub open_kept : (high : ℕ) (why : Cause) → outcome.certificate ≡ None → outcome.report ≡ head_lines circuit.netlist ++ at_most_lines ended high why
       → IsCertifiedAmong text reading search outcome.report outcome.certificate
   open_kept high why none printed =
       subst (λ (c : Option Certificate). IsCertifiedAmong text reading search outcome.report c) (sym none)

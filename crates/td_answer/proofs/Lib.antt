@@ -9,6 +9,7 @@ pub mod Judged
 pub mod Standing
 pub mod RowStanding
 pub mod Unkept
+pub mod Works
 pub mod Searched
 pub mod KeptOnes
 pub mod Chosen
@@ -17,11 +18,11 @@ pub mod Zips
 pub mod Filling
 pub mod Whole
 pub mod Cuts
-pub mod Keeping
 pub mod Writable
 pub mod Gathered
 pub mod Reporting
 pub mod EachOne
+pub mod Outlooks
 pub mod OutputNumbers
 pub mod Conditioned
 pub mod Hazardous

@@ -44,6 +44,8 @@ use Rattle.td_answer.specs.declared.status.Status.TheVariants.{Done, Between}
 use Rattle.td_answer.specs.declared.certifying.Read.{Read}
 use Rattle.td_answer.specs.declared.kept_certificate.Told.{Told}
 use Rattle.td_answer.specs.Heads.{head_lines}
+use Rattle.td_answer.specs.declared.ended.Ended.{Ended}
+use Rattle.td_answer.specs.Ends.{cause_of, work_lines}
 use Rattle.td_answer.specs.Lines.{answer_lines, ending_of, pair_in}
 use Rattle.td_answer.specs.Runs.{TellsPair, RunsPair}
 use Rattle.td_answer.specs.Dumps.{IsDumpWhere}
@@ -52,10 +54,11 @@ use Rattle.td_answer.specs.Certificates.{outputs_in, terms_in, tells_terms}
 use Rattle.td_answer.specs.Certified.{AreTermsOf, IsShown, IsCertified}
 use Rattle.td_answer.specs.KeptTerms.{kept_terms}
 use Rattle.td_answer.specs.OpenCertificates.{IsCertificateOf, IsWantedCertificate, read_of}
-use Rattle.td_answer.specs.Requirements.{required_lines, cause_of, cause_by}
+use Rattle.td_answer.specs.Requirements.{required_lines, cause_by}
 use Rattle.td_answer.specs.Searches.{IsRefusedSearch}
 use Rattle.td_answer.specs.Sentences.{HasDelay, HasFigure, IsTrueWorst}
 use Rattle.td_answer.proofs.Standing.{tells}
+use Rattle.td_answer.proofs.Works.{works}
 
 -- ---- the pair of an answer
 
@@ -110,21 +113,25 @@ no_condition by read tree = go (tells_terms by (is_some read.outputs) tree)
     go true = refl
     go false = refl
 
-module _ (text : List ℕ) (reading : Reading) (asked_by : Search) (circuit : Numbered) (admit : Admitted) (by : Strategy)
-    (asked : IsAsked text reading asked_by.question (setting circuit) admit) where
+module _ (text : List ℕ) (reading : Reading) (ended : Ended) (circuit : Numbered) (admit : Admitted) (by : Strategy)
+    (asked : IsAsked text reading ended.search.now.question (setting circuit) admit) where
   abbrev problem : Problem
   problem = problem_by by circuit admit
+
+  abbrev asked_by : Search
+  asked_by = ended.search.now
 
   -- ---- the figure
 
   more_bound : (one other : ℕ) → one ≤ other → IsUpperBound (setting circuit) admit one → IsUpperBound (setting circuit) admit other
   more_bound one other le is = λ pair delay admitted has. (let low = is pair delay admitted has in omega (arith, le))
 
-  figure : (was_asked : Bool) (budget : ℕ) (found : Answer) (more : List Line) → IsSoundAnswer problem budget found → TellsPair asked_by.shown (setting circuit) (pair_in found) more
-      → HasFigure (setting circuit) admit asked_by (pair_in found) (answer_lines was_asked asked_by.required found ++ more) (ending_of asked_by.required found)
-  figure was_asked budget (answer.Exact time pair nodes) more is tells_more = inl (record {
+  figure : (budget : ℕ) (found : Answer) (more : List Line) → IsSoundAnswer problem budget found → TellsPair asked_by.shown (setting circuit) (pair_in found) more
+      → HasFigure (setting circuit) admit asked_by (pair_in found) (answer_lines ended found ++ more) (ending_of asked_by.required found)
+  figure budget (answer.Exact time pair nodes) more is tells_more = inl (record {
     time = time;
     nodes = length nodes;
+    used = work_lines ended;
     required = required_lines asked_by.required time time;
     more = more;
     printed = refl;
@@ -132,13 +139,15 @@ module _ (text : List ℕ) (reading : Reading) (asked_by : Search) (circuit : Nu
     has = record { admitted = is.reached.0; delays = is.reached.1 };
     stands = tells (IsUpperBound (setting circuit) admit) (HasDelay (setting circuit) admit pair) more_bound Done asked_by.required time time
         is.greatest (record { admitted = is.reached.0; delays = is.reached.1 });
+    took = works ended;
     tells = tells_more;
   })
-  figure was_asked budget (answer.Between low high pair nodes short) more is tells_more = inr (record {
+  figure budget (answer.Between low high pair nodes short) more is tells_more = inr (record {
     low = low;
     high = high;
-    cause = cause_by asked_by.required low high (cause_of was_asked short);
+    cause = cause_by asked_by.required low high (cause_of ended nodes short);
     nodes = nodes;
+    used = work_lines ended;
     required = required_lines asked_by.required low high;
     more = more;
     printed = refl;
@@ -147,24 +156,25 @@ module _ (text : List ℕ) (reading : Reading) (asked_by : Search) (circuit : Nu
     ordered = is.ordered;
     stands = tells (IsUpperBound (setting circuit) admit) (HasDelay (setting circuit) admit pair) more_bound Between asked_by.required low high
         is.greatest (record { admitted = is.reached.0; delays = is.reached.1 });
+    took = works ended;
     tells = tells_more;
   })
 
   -- what a search says is true
-  pub says : (was_asked : Bool) (budget : ℕ) (found : Answer) (outcome : Outcome) → IsSoundAnswer problem budget found
-      → AddsLines (TellsPair asked_by.shown (setting circuit) (pair_in found)) (head_lines circuit.netlist ++ answer_lines was_asked asked_by.required found) outcome.report
+  pub says : (budget : ℕ) (found : Answer) (outcome : Outcome) → IsSoundAnswer problem budget found
+      → AddsLines (TellsPair asked_by.shown (setting circuit) (pair_in found)) (head_lines circuit.netlist ++ answer_lines ended found) outcome.report
       → outcome.status ≡ ending_of asked_by.required found
       → IsDumpWhere (is_some asked_by.dump) (setting circuit) (RunsPair (setting circuit) (pair_in found)) outcome.dump
       → IsTrueWorst text reading asked_by outcome
-  says was_asked budget found outcome is adds ends dumped = record {
+  says budget found outcome is adds ends dumped = record {
     setting = setting circuit;
     admit = admit;
     asked = asked;
     pair = pair_in found;
-    lines = answer_lines was_asked asked_by.required found ++ adds.0;
-    is = adds.1 ∙ append_assoc (head_lines circuit.netlist) (answer_lines was_asked asked_by.required found) adds.0;
-    figure = subst (λ (status : Status). HasFigure (setting circuit) admit asked_by (pair_in found) (answer_lines was_asked asked_by.required found ++ adds.0) status) (sym ends)
-        (figure was_asked budget found adds.0 is adds.2);
+    lines = answer_lines ended found ++ adds.0;
+    is = adds.1 ∙ append_assoc (head_lines circuit.netlist) (answer_lines ended found) adds.0;
+    figure = subst (λ (status : Status). HasFigure (setting circuit) admit asked_by (pair_in found) (answer_lines ended found ++ adds.0) status) (sym ends)
+        (figure budget found adds.0 is adds.2);
     dumped = dumped;
   }
 
@@ -208,11 +218,11 @@ module _ (text : List ℕ) (reading : Reading) (asked_by : Search) (circuit : Nu
     open_certified low high pair report None is tells_between = (low, high, tells_between)
     open_certified low high pair report (Some certificate) is tells_between = open_shown low high pair report certificate is tells_between
 
-    shown_by : (was_asked : Bool) (budget : ℕ) (found : Answer) (report : List Line) (more : List Line) (certificate : Option Certificate)
+    shown_by : (budget : ℕ) (found : Answer) (report : List Line) (more : List Line) (certificate : Option Certificate)
         → IsSoundAnswer problem budget found → CanBeWritten problem found → IsCertificateOf told problem asked_by found certificate
-        → report ≡ (head_lines circuit.netlist ++ answer_lines was_asked asked_by.required found) ++ more
+        → report ≡ (head_lines circuit.netlist ++ answer_lines ended found) ++ more
         → IsCertified text reading asked_by report certificate
-    shown_by was_asked budget (answer.Exact time pair tree) report more certificate is written kept printed =
+    shown_by budget (answer.Exact time pair tree) report more certificate is written kept printed =
         subst (λ (c : Option Certificate). IsCertified text reading asked_by report c) (sym kept.0) (record {
           netlist = circuit.netlist;
           asked = asked_so;
@@ -223,19 +233,22 @@ module _ (text : List ℕ) (reading : Reading) (asked_by : Search) (circuit : Nu
           accepted = is.accepted (terms_in by (read_of told) tree) (no_condition by (read_of told) tree);
           written = (written (terms_in by (read_of told) tree) kept.1).0;
         })
-    shown_by was_asked budget (answer.Between low high pair nodes short) report more certificate is written kept printed =
+    shown_by budget (answer.Between low high pair nodes short) report more certificate is written kept printed =
         open_certified low high pair report certificate kept
         (subst (λ (lines : List Line). Contains lines (line.Between low high)) (sym printed) (2, omega arith, refl))
 
     -- what a search keeps is a certificate of its answer
-    pub certified : (was_asked : Bool) (budget : ℕ) (found : Answer) (outcome : Outcome) → IsSoundAnswer problem budget found → CanBeWritten problem found
-        → AddsLines (TellsPair asked_by.shown (setting circuit) (pair_in found)) (head_lines circuit.netlist ++ answer_lines was_asked asked_by.required found) outcome.report
+    pub certified : (budget : ℕ) (found : Answer) (outcome : Outcome) → IsSoundAnswer problem budget found → CanBeWritten problem found
+        → AddsLines (TellsPair asked_by.shown (setting circuit) (pair_in found)) (head_lines circuit.netlist ++ answer_lines ended found) outcome.report
         → IsCertificateOf told problem asked_by found outcome.certificate
         → IsCertified text reading asked_by outcome.report outcome.certificate
-    certified was_asked budget found outcome is written adds kept = shown_by was_asked budget found outcome.report adds.0 outcome.certificate is written kept adds.1
+    certified budget found outcome is written adds kept = shown_by budget found outcome.report adds.0 outcome.certificate is written kept adds.1
 
-  -- ---- no answer
+-- ---- no answer
 
-  pub refused : (reason : SearchFault) → IsSearchFault problem reason → IsRefusedSearch text reading asked_by (refusal.Search reason)
-  refused search.NoPair none = (setting circuit, admit, asked, λ pair admitted. none (pair, admitted, admitted.pinned))
-  refused search.OutOfMemory none = tt
+pub refused : (text : List ℕ) (reading : Reading) (asked_by : Search) (circuit : Numbered) (admit : Admitted) (by : Strategy)
+    → IsAsked text reading asked_by.question (setting circuit) admit → (reason : SearchFault) → IsSearchFault (problem_by by circuit admit) reason
+    → IsRefusedSearch text reading asked_by (refusal.Search reason)
+refused text reading asked_by circuit admit by asked search.NoPair none =
+    (setting circuit, admit, asked, λ pair admitted. none (pair, admitted, admitted.pinned))
+refused text reading asked_by circuit admit by asked search.OutOfMemory none = tt

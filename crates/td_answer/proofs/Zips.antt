@@ -1,10 +1,11 @@
 -- Two lists of one length, element by element.
-use Rattle.std.proofs.Common.{◌≡◌, ◌∙◌, ◌<◌, ◌≤◌, ◌+◌, ℕ, suc, List, [], ◌∷◌, ◌++◌, length, take, get_or, sym, ap, subst, arith, Some, slice_get}
+use Rattle.std.proofs.Common.{◌≡◌, ◌∙◌, ◌<◌, ◌≤◌, ◌+◌, ℕ, zero, suc, List, [], ◌∷◌, ◌++◌, length, take, get_or, refl, sym, ap, subst, arith, Some, slice_get}
 use Rattle.std.specs.Prelude.{map, All}
 use Rattle.std.specs.List.{AllZip}
+use Rattle.std.proofs.lemmas.Option.{none-some}
 use Rattle.std.proofs.lemmas.List.{take_more, take_all}
 use Rattle.std.proofs.lemmas.List.Elements.{All-cons}
-use Rattle.td_gates.proofs.Places.{take_push}
+use Rattle.td_gates.proofs.Places.{some-same, get-slice_get, take_push}
 
 module _ {A B : Type 0} (R : A → B → Type 0) where
   zip_push : (xs : List A) (ys : List B) (x : A) (y : B) → AllZip R xs ys → R x y → AllZip R (xs ++ x ∷ []) (ys ++ y ∷ [])
@@ -36,6 +37,19 @@ module _ {A B : Type 0} (R : A → B → Type 0) where
   -- all of them
   pub zip_all : (xs : List A) (ys : List B) (i : ℕ) → length xs ≤ i → AllZip R (take i xs) ys → AllZip R xs ys
   zip_all xs ys i past all = subst (λ (front : List A). AllZip R front ys) (take_all i xs past) all
+
+  -- what holds of the elements at a place
+  pub zip_at : (xs : List A) (ys : List B) → AllZip R xs ys → (i : ℕ) (x : A) (y : B) → slice_get xs i ≡ Some x → slice_get ys i ≡ Some y → R x y
+  zip_at [] [] all i x y at_x at_y = absurd (none-some x at_x)
+  zip_at [] (b ∷ ys) all i x y at_x at_y = absurd all
+  zip_at (a ∷ xs) [] all i x y at_x at_y = absurd all
+  zip_at (a ∷ xs) (b ∷ ys) all zero x y at_x at_y =
+      subst (λ (it : B). R x it) (some-same b y at_y) (subst (λ (it : A). R it b) (some-same a x at_x) all.0)
+  zip_at (a ∷ xs) (b ∷ ys) all (suc i) x y at_x at_y = zip_at xs ys all.1 i x y at_x at_y
+
+  -- the same, where the element of one side is read with a default
+  pub zip_read : (xs : List A) (ys : List B) → AllZip R xs ys → (i : ℕ) (default : B) → i < length ys → (x : A) → slice_get xs i ≡ Some x → R x (get_or ys i default)
+  zip_read xs ys all i default less x at_x = zip_at xs ys all i x (get_or ys i default) at_x (get-slice_get ys i default (get_or ys i default) less refl)
 
   -- what holds of one side's elements
   pub zip_second : (P : B → Type 0) → ((x : A) (y : B) → R x y → P y) → (xs : List A) (ys : List B) → AllZip R xs ys → All P ys

@@ -21,6 +21,7 @@ use Rattle.td_lines.specs.declared.line.Cause.{Cause}
 use Rattle.td_lines.specs.declared.line.Line.{Line}
 use Rattle.td_lines.specs.declared.line.Line.TheVariants as line
 use Rattle.td_answer.specs.Certified.{ClaimsPrinted, SaysBetween}
+use Rattle.td_answer.specs.Ends.{TellsWork}
 use Rattle.td_answer.specs.Heads.{head_lines}
 use Rattle.td_answer.specs.Requirements.{TellsRequired}
 use Rattle.td_answer.specs.Runs.{TellsPair, RunsPair}
@@ -46,16 +47,19 @@ pub record HasDelayAmong (setting : Setting) (asking : Asking) (pair : Pair) (de
   pub delays : IsDelayOfBits setting pair.first pair.second delay
 
 -- The first line is `exact N`. The pair on the next lines is one of those asked about and has N, and
--- none of them is later. After the nodes come what is required, and what is asked of its run.
+-- none of them is later. After the nodes
+-- come what the search took, if that is asked for, what is required, and what is asked of its run.
 pub record IsExactAmong (setting : Setting) (asking : Asking) (search : Search) (pair : Pair) (lines : List Line) (ending : Status) : Type 0 where
   pub time : ℕ
   pub nodes : ℕ
+  pub used : List Line
   pub required : List Line
   pub more : List Line
-  pub printed : lines ≡ line.Exact time ∷ line.From pair.first ∷ line.To pair.second ∷ line.Nodes nodes ∷ (required ++ more)
+  pub printed : lines ≡ line.Exact time ∷ line.From pair.first ∷ line.To pair.second ∷ line.Nodes nodes ∷ ((used ++ required) ++ more)
   pub has : HasDelayAmong setting asking pair time
   pub greatest : IsBoundAmong setting asking time
   pub stands : TellsRequired (IsBoundAmong setting asking) (HasDelayAmong setting asking pair) status.Done search.required required ending
+  pub took : TellsWork search.shown.work used
   pub tells : TellsPair search.shown setting pair more
 
 -- It is `between L H`: the pair that follows is one of those asked about and has L, and none of them is
@@ -65,22 +69,26 @@ pub record IsBetweenAmong (setting : Setting) (asking : Asking) (search : Search
   pub high : ℕ
   pub cause : Cause
   pub nodes : ℕ
+  pub used : List Line
   pub required : List Line
   pub more : List Line
-  pub printed : lines ≡ line.Between low high ∷ line.Cause cause ∷ line.From pair.first ∷ line.To pair.second ∷ line.Nodes nodes ∷ (required ++ more)
+  pub printed : lines ≡ line.Between low high ∷ line.Cause cause ∷ line.From pair.first ∷ line.To pair.second ∷ line.Nodes nodes ∷ ((used ++ required) ++ more)
   pub has : HasDelayAmong setting asking pair low
   pub greatest : IsBoundAmong setting asking high
   pub ordered : low ≤ high
   pub stands : TellsRequired (IsBoundAmong setting asking) (HasDelayAmong setting asking pair) status.Between search.required required ending
+  pub took : TellsWork search.shown.work used
   pub tells : TellsPair search.shown setting pair more
 
 -- It is `between none H`: no pair that is asked about is later than H.
 pub record IsAtMost (setting : Setting) (asking : Asking) (search : Search) (lines : List Line) (ending : Status) : Type 0 where
   pub high : ℕ
   pub cause : Cause
+  pub used : List Line
   pub required : List Line
-  pub printed : lines ≡ line.AtMost high ∷ line.Cause cause ∷ required
+  pub printed : lines ≡ line.AtMost high ∷ line.Cause cause ∷ (used ++ required)
   pub greatest : IsBoundAmong setting asking high
+  pub took : TellsWork search.shown.work used
   pub stands : TellsRequired (IsBoundAmong setting asking) (λ delay. ⊥) status.Between search.required required ending
 
 -- It is `none`: no pair is asked about.

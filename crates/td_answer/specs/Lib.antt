@@ -4,6 +4,7 @@ pub mod Heads
 pub mod Names
 pub mod Rows
 pub mod Methods
+pub mod Ends
 pub mod Lines
 pub mod Runs
 pub mod Dumps
@@ -21,6 +22,7 @@ pub mod Searches
 pub mod Findings
 pub mod Columns
 pub mod Tables
+pub mod Outlooks
 pub mod Hazards
 pub mod Simulations
 pub mod Paths

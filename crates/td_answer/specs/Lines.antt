@@ -1,5 +1,5 @@
 -- The lines of the answer of a search.
-use Rattle.std.specs.Prelude.{ℕ, Bool, true, false, List, [], ◌∷◌, length, ◌==◌, if◌then◌else◌, Option, Some, None}
+use Rattle.std.specs.Prelude.{ℕ, Bool, true, false, List, [], ◌∷◌, ◌++◌, length, ◌==◌, if◌then◌else◌, Option, Some, None}
 use Rattle.td_domain.specs.Pairs.{Pair}
 use Rattle.td_certificate.specs.declared.certificate.Claim.{Claim}
 use Rattle.td_search.specs.declared.answers.Answer.{Answer}
@@ -7,28 +7,37 @@ use Rattle.td_search.specs.declared.answers.Answer.TheVariants as answer
 use Rattle.td_lines.specs.declared.line.Cause.{Cause}
 use Rattle.td_lines.specs.declared.line.Line.{Line}
 use Rattle.td_lines.specs.declared.line.Line.TheVariants as line
-use Rattle.td_answer.specs.Requirements.{required_lines, cause_of, cause_by, ending_by}
+use Rattle.td_answer.specs.Ends.{cause_of, work_lines}
+use Rattle.td_answer.specs.Requirements.{required_lines, cause_by, ending_by}
+use Rattle.td_answer.specs.declared.ended.Ended.{Ended}
 use Rattle.td_answer.specs.declared.status.Status.{Status}
 use Rattle.td_answer.specs.declared.status.Status.TheVariants as status
 
--- of a worst delay, with what is required
-abbrev pub exact_lines : Option ℕ → ℕ → Pair → ℕ → List Line
-exact_lines required time pair nodes =
-    line.Exact time ∷ line.From pair.first ∷ line.To pair.second ∷ line.Nodes nodes ∷ required_lines required time time
+-- what a search that ended so took, and what is required, where its figures are these
+abbrev pub end_lines : Ended → ℕ → ℕ → List Line
+end_lines ended low high = work_lines ended ++ required_lines ended.search.now.required low high
 
-abbrev pub between_lines : Option ℕ → ℕ → ℕ → Cause → Pair → ℕ → List Line
-between_lines required low high cause pair nodes =
-    line.Between low high ∷ line.Cause (cause_by required low high cause) ∷ line.From pair.first ∷ line.To pair.second ∷ line.Nodes nodes
-    ∷ required_lines required low high
+-- why figures are open
+abbrev pub cause_line : Ended → ℕ → ℕ → Cause → Line
+cause_line ended low high cause = line.Cause (cause_by ended.search.now.required low high cause)
+
+-- of a worst delay
+abbrev pub exact_lines : Ended → ℕ → Pair → ℕ → List Line
+exact_lines ended time pair nodes =
+    line.Exact time ∷ line.From pair.first ∷ line.To pair.second ∷ line.Nodes nodes ∷ end_lines ended time time
+
+abbrev pub between_lines : Ended → ℕ → ℕ → Cause → Pair → ℕ → List Line
+between_lines ended low high cause pair nodes =
+    line.Between low high ∷ cause_line ended low high cause ∷ line.From pair.first ∷ line.To pair.second ∷ line.Nodes nodes ∷ end_lines ended low high
 
 -- where no pair is known
-abbrev pub at_most_lines : Option ℕ → ℕ → Cause → List Line
-at_most_lines required high cause = line.AtMost high ∷ line.Cause (cause_by required 0 high cause) ∷ required_lines required 0 high
+abbrev pub at_most_lines : Ended → ℕ → Cause → List Line
+at_most_lines ended high cause = line.AtMost high ∷ cause_line ended 0 high cause ∷ end_lines ended 0 high
 
--- of an answer, where somebody asked for the search's end, or nobody did
-abbrev pub answer_lines : Bool → Option ℕ → Answer → List Line
-answer_lines was_asked required (answer.Exact time pair tree) = exact_lines required time pair (length tree)
-answer_lines was_asked required (answer.Between low high pair nodes cause) = between_lines required low high (cause_of was_asked cause) pair nodes
+-- of an answer
+abbrev pub answer_lines : Ended → Answer → List Line
+answer_lines ended (answer.Exact time pair tree) = exact_lines ended time pair (length tree)
+answer_lines ended (answer.Between low high pair nodes cause) = between_lines ended low high (cause_of ended nodes cause) pair nodes
 
 -- the time of a whole whose parts were checked, or weren't, and that no pair is admitted
 abbrev pub time_line : Bool → ℕ → Line

@@ -1,7 +1,5 @@
 -- A required moment, and what is known of it.
 use Rattle.std.specs.Prelude.{◌≡◌, ℕ, ◌<◌, nat_lt, nat_le, ◌||◌, Bool, true, false, cond, List, [], ◌∷◌, Option, Some, None}
-use Rattle.td_search.specs.declared.answers.Cause.{Cause as SearchCause}
-use Rattle.td_search.specs.declared.answers.Cause.TheVariants as cause
 use Rattle.td_lines.specs.declared.line.Found.{Found}
 use Rattle.td_lines.specs.declared.line.Found.TheVariants as found
 use Rattle.td_lines.specs.declared.line.Requirement.{Requirement}
@@ -28,12 +26,6 @@ is_decided (Some moment) low high = nat_le high moment || nat_lt moment low
 abbrev pub required_lines : Option ℕ → ℕ → ℕ → List Line
 required_lines None low high = []
 required_lines (Some moment) low high = line.Required moment (standing_of moment low high) ∷ []
-
--- why a search ended; where its stop was set, whether somebody asked for that
-abbrev pub cause_of : Bool → SearchCause → Cause
-cause_of was_asked cause.Budget = why.Budget
-cause_of was_asked cause.Memory = why.Memory
-cause_of was_asked cause.Time = cond was_asked why.Stop why.Time
 
 -- why figures are open: what was asked of a required moment is answered, or else why the search ended
 abbrev pub cause_by : Option ℕ → ℕ → ℕ → Cause → Cause

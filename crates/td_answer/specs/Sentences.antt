@@ -11,6 +11,7 @@ use Rattle.td_question.specs.Asking.{IsAsked}
 use Rattle.td_lines.specs.declared.line.Cause.{Cause}
 use Rattle.td_lines.specs.declared.line.Line.{Line}
 use Rattle.td_lines.specs.declared.line.Line.TheVariants as line
+use Rattle.td_answer.specs.Ends.{TellsWork}
 use Rattle.td_answer.specs.Heads.{head_lines}
 use Rattle.td_answer.specs.Requirements.{TellsRequired}
 use Rattle.td_answer.specs.Runs.{TellsPair, RunsPair}
@@ -25,16 +26,19 @@ pub record HasDelay (setting : Setting) (admit : Admitted) (pair : Pair) (delay 
   pub delays : IsDelayOfBits setting pair.first pair.second delay
 
 -- The first line is `exact N`, and N is the worst delay of the admitted pairs. The pair on the next
--- lines is admitted and has it. After the nodes come what is required, and what is asked of its run.
+-- lines is admitted and has it. After the nodes
+-- come what the search took, if that is asked for, what is required, and what is asked of its run.
 pub record IsExact (setting : Setting) (admit : Admitted) (search : Search) (pair : Pair) (lines : List Line) (ending : Status) : Type 0 where
   pub time : ℕ
   pub nodes : ℕ
+  pub used : List Line
   pub required : List Line
   pub more : List Line
-  pub printed : lines ≡ line.Exact time ∷ line.From pair.first ∷ line.To pair.second ∷ line.Nodes nodes ∷ (required ++ more)
+  pub printed : lines ≡ line.Exact time ∷ line.From pair.first ∷ line.To pair.second ∷ line.Nodes nodes ∷ ((used ++ required) ++ more)
   pub worst : IsWorst setting admit time
   pub has : HasDelay setting admit pair time
   pub stands : TellsRequired (IsUpperBound setting admit) (HasDelay setting admit pair) status.Done search.required required ending
+  pub took : TellsWork search.shown.work used
   pub tells : TellsPair search.shown setting pair more
 
 -- It is `between L H`: the pair that follows is admitted and has L, and no admitted pair is later
@@ -44,13 +48,15 @@ pub record IsBetween (setting : Setting) (admit : Admitted) (search : Search) (p
   pub high : ℕ
   pub cause : Cause
   pub nodes : ℕ
+  pub used : List Line
   pub required : List Line
   pub more : List Line
-  pub printed : lines ≡ line.Between low high ∷ line.Cause cause ∷ line.From pair.first ∷ line.To pair.second ∷ line.Nodes nodes ∷ (required ++ more)
+  pub printed : lines ≡ line.Between low high ∷ line.Cause cause ∷ line.From pair.first ∷ line.To pair.second ∷ line.Nodes nodes ∷ ((used ++ required) ++ more)
   pub has : HasDelay setting admit pair low
   pub greatest : IsUpperBound setting admit high
   pub ordered : low ≤ high
   pub stands : TellsRequired (IsUpperBound setting admit) (HasDelay setting admit pair) status.Between search.required required ending
+  pub took : TellsWork search.shown.work used
   pub tells : TellsPair search.shown setting pair more
 
 -- where nothing is required, the search ends with status 0 just where its figure is exact

@@ -9,8 +9,10 @@ ghost use Rattle.td_question.specs.Found.{AreInOrder};
 ghost use Rattle.td_question.specs.Keeping.{count_nets};
 ghost use Rattle.td_answer.specs.Columns.{IsOnlyOutput, where_settles, pairs_of, IsTrueAnswer};
 ghost use Rattle.td_answer.specs.Findings.{kept_found};
+ghost use Rattle.td_answer.specs.Outlooks.{IsTrueOutlook};
 ghost use Rattle.td_answer.specs.Tables.{IsUnanswered};
 
+use crate::outlook::Outlook;
 use crate::refusal::Refusal;
 use std::alloc::{AllocError, Global};
 use std::sync::Wait;
@@ -22,6 +24,7 @@ use td_pool::Limits;
 use td_question::in_order;
 use td_refutation::NamedCondition;
 use td_request::Search;
+use td_search::Cause;
 use td_spans::Form;
 use td_worst::{KeptAnswer, KeptQuestion};
 
@@ -36,11 +39,12 @@ pub(crate) struct Inquiry<'a, 'w> {
 }
 
 /// A circuit that is asked about one output alone, the number by which conditions name that
-/// output's net, and what is asked.
+/// output's net, what is known of it, and what is asked.
 #[derive(Clone, Copy)]
 pub(crate) struct Alone<'a, 'w> {
     pub(crate) circuit: &'a Circuit,
     pub(crate) net: u64,
+    pub(crate) outlook: Outlook,
     pub(crate) inquiry: Inquiry<'a, 'w>,
 }
 
@@ -99,7 +103,7 @@ fn keep_with(
 }
 
 /// What the search answers of the pairs under which the output settles so.
-pub(crate) fn answer_where<'n, 'w, R: Threads + Wait + Sync>(
+fn searched_where<'n, 'w, R: Threads + Wait + Sync>(
     rt: &R,
     alloc: Global,
     alone: Alone<'_, 'w>,
@@ -116,6 +120,7 @@ pub(crate) fn answer_where<'n, 'w, R: Threads + Wait + Sync>(
         circuit,
         net,
         inquiry,
+        ..
     } = alone;
     let Settled { form, required } = settled;
     let keep = keep_with(alloc, inquiry.keep, NamedCondition { net, form })?;
@@ -125,8 +130,31 @@ pub(crate) fn answer_where<'n, 'w, R: Threads + Wait + Sync>(
         keep: &keep,
         required,
     };
-    let answer = td_worst::worst_kept(rt, alloc, question, inquiry.limits)?;
-    Ok(answer)
+    let found = td_worst::worst_kept(rt, alloc, question, inquiry.limits)?;
+    Ok(found.answer)
+}
+
+/// What is known of the pairs under which the output settles so: what the search answers, or the
+/// bound by edges once the stop is set.
+pub(crate) fn answer_where<'n, 'w, R: Threads + Wait + Sync>(
+    rt: &R,
+    alloc: Global,
+    alone: Alone<'_, 'w>,
+    settled: Settled,
+) -> Result<KeptAnswer, Refusal<'n, 'w>>
+    requires held { length alone.inquiry.admit.now.held ≡ length alone.circuit.now.netlist.inputs }
+    requires fit { are_fit (count_nets alone.circuit.now.netlist) alone.inquiry.keep.now ≡ true }
+    requires output { IsOnlyOutput alone.circuit.now.netlist alone.net }
+    requires outlook { IsTrueOutlook (setting alone.circuit.now) alone.inquiry.admit.now alone.outlook }
+    ensures answer { IfOk result (IsTrueAnswer (setting alone.entry.circuit.now)
+        (where_settles (pairs_of alone.entry.inquiry) alone.entry.net settled.form)) }
+    ensures refusal { IfErr result (IsUnanswered alone.entry.inquiry.admit.now) }
+{
+    if let Some(high) = alone.outlook.at_the_end(alone.inquiry.limits.stop) {
+        let cause = Cause::Time;
+        return Ok(KeptAnswer::Open { high, cause });
+    }
+    searched_where(rt, alloc, alone, settled)
 }
 
 /// What an answer says of the worst delay of the pairs that keep conditions.

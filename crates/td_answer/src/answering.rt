@@ -21,23 +21,24 @@ use crate::path::path;
 use crate::refusal::Refusal;
 use crate::sim::sim;
 use crate::texts::Texts;
+use crate::watch::TableWatch;
 use crate::worst::worst;
 use std::alloc::Global;
 use std::sync::Wait;
 use std::thread::Threads;
-use td_pool::Watch;
 use td_reading::Reading;
 use td_request::{Check, Command, Request, Search, Table};
 use td_stop::Stop;
 
 /// The outcome of a request on the texts of its files. Once the stop is set, a search ends, and its
 /// outcome says what is known by then; the report gives `stop` as the cause where somebody asked
-/// for it, and `time` where nobody did. The watch gets the progress of a search.
+/// for it, and `time` where nobody did. The watch gets the progress of a search, and hears the
+/// rows of a table with worst delays.
 ///
 /// # Errors
 ///
 /// Why there is none.
-pub fn answer<'n, 'w, 'c, W: Watch, R: Threads + Wait + Sync>(
+pub fn answer<'n, 'w, 'c, W: TableWatch, R: Threads + Wait + Sync>(
     rt: &R,
     alloc: Global,
     request: &Request<'w>,
@@ -99,7 +100,7 @@ pub fn answer_plain<'n, 'w, 'c>(
     }
 }
 
-fn searched<'n, 'w, W: Watch, R: Threads + Wait + Sync>(
+fn searched<'n, 'w, W: TableWatch, R: Threads + Wait + Sync>(
     rt: &R,
     alloc: Global,
     text: &'n [u8],
@@ -118,8 +119,9 @@ fn searched<'n, 'w, W: Watch, R: Threads + Wait + Sync>(
     match search.table {
         None => worst(rt, alloc, text, reading, search, stop, watch),
         Some(Table::Hazards) => hazards(rt, alloc, text, reading, search, stop),
-        Some(Table::Delays) => table(rt, alloc, text, reading, search, stop),
-        Some(Table::Changes { .. }) => table(rt, alloc, text, reading, search, stop),
+        Some(Table::Delays | Table::Changes { .. }) => {
+            table(rt, alloc, text, reading, search, stop, watch)
+        }
     }
 }
 

@@ -2,10 +2,11 @@
 
 ghost use Rattle.std.specs.Prelude.{◌≡◌, ◌++◌, length, IfOk, OnOk};
 ghost use Rattle.td_answer.specs.Heads.{head_lines};
-ghost use Rattle.td_answer.specs.Lines.{exact_lines, between_lines, answer_lines, ending_of, pair_in};
+ghost use Rattle.td_answer.specs.Lines.{end_lines, cause_line, exact_lines, between_lines, answer_lines, ending_of, pair_in};
 
+use crate::ended::Ended;
 use crate::head::begun;
-use crate::requirement::{cause_by, cause_of, ending_by, push_required};
+use crate::requirement::{cause_by, ending_by, push_required};
 use crate::status::Status;
 use std::alloc::{AllocError, Global};
 use td_certificate::Tree;
@@ -34,34 +35,31 @@ pub(crate) fn ending_of(required: Option<u64>, answer: &Answer) -> Status
     }
 }
 
-/// The report of an answer, where this moment is required, and somebody asked for the search's end
-/// or nobody did.
+/// The report of an answer of a search that ended so.
 pub(crate) fn report_of(
     alloc: Global,
     circuit: &Circuit,
-    required: Option<u64>,
     answer: &Answer,
-    was_asked: bool,
+    ended: Ended<'_, '_>,
 ) -> Result<Report, AllocError>
-    ensures { IfOk result (λ report. report ≡ head_lines circuit.now.netlist ++ answer_lines was_asked required answer.now) }
+    ensures { IfOk result (λ report. report ≡ head_lines circuit.now.netlist ++ answer_lines ended.entry answer.now) }
 {
     let mut report = begun(alloc, circuit)?;
-    push_answer(alloc, &mut report, required, answer, was_asked)?;
+    push_answer(alloc, &mut report, answer, ended)?;
     Ok(report)
 }
 
 fn push_answer(
     alloc: Global,
     report: &mut Report,
-    required: Option<u64>,
     answer: &Answer,
-    was_asked: bool,
+    ended: Ended<'_, '_>,
 ) -> Result<(), AllocError>
-    ensures { OnOk result (report.new ≡ report.old ++ answer_lines was_asked required answer.now) }
+    ensures { OnOk result (report.new ≡ report.old ++ answer_lines ended.entry answer.now) }
 {
     match answer {
         Answer::Exact { time, pair, tree } => {
-            push_exact(alloc, report, required, *time, pair, tree)
+            push_exact(alloc, report, ended, *time, pair, tree)
         }
         Answer::Between {
             low,
@@ -73,9 +71,9 @@ fn push_answer(
             let figures = Figures {
                 low: *low,
                 high: *high,
-                cause: cause_of(*cause, was_asked),
+                cause: ended.cause(*cause, *nodes),
             };
-            push_between(alloc, report, required, figures, pair, *nodes)
+            push_between(alloc, report, ended, figures, pair, *nodes)
         }
     }
 }
@@ -87,16 +85,37 @@ pub(crate) fn vector_of(alloc: Global, bits: &[bool]) -> Result<Vector, AllocErr
     Ok(Vector::new(bits))
 }
 
+/// Appends what the search took, where it is asked for, and what is required, where its figures are
+/// these.
+pub(crate) fn push_end(
+    report: &mut Report,
+    ended: Ended<'_, '_>,
+    low: u64,
+    high: u64,
+) -> Result<(), AllocError>
+    ensures { OnOk result (report.new ≡ report.old ++ end_lines ended.entry low high) }
+{
+    ended.push_work(report)?;
+    push_required(report, ended.search.required, low, high)
+}
+
+/// The line of why figures are open.
+pub(crate) fn cause_line(ended: Ended<'_, '_>, low: u64, high: u64, cause: Cause) -> Line
+    ensures { result ≡ cause_line ended.entry low high cause }
+{
+    Line::Cause(cause_by(ended.search.required, low, high, cause))
+}
+
 /// Appends the lines of an exact answer.
 pub(crate) fn push_exact(
     alloc: Global,
     report: &mut Report,
-    required: Option<u64>,
+    ended: Ended<'_, '_>,
     time: u64,
     pair: &Pair,
     tree: &Tree,
 ) -> Result<(), AllocError>
-    ensures { OnOk result (report.new ≡ report.old ++ exact_lines required time pair.now (length tree.now)) }
+    ensures { OnOk result (report.new ≡ report.old ++ exact_lines ended.entry time pair.now (length tree.now)) }
 {
     let first = vector_of(alloc, pair.first())?;
     let second = vector_of(alloc, pair.second())?;
@@ -108,7 +127,7 @@ pub(crate) fn push_exact(
         Line::To(second),
         Line::Nodes(nodes),
     )?;
-    push_required(report, required, time, time)
+    push_end(report, ended, time, time)
 }
 
 /// The figures of an answer that stays open, and why it does.
@@ -123,22 +142,22 @@ pub(crate) struct Figures {
 pub(crate) fn push_between(
     alloc: Global,
     report: &mut Report,
-    required: Option<u64>,
+    ended: Ended<'_, '_>,
     figures: Figures,
     pair: &Pair,
     nodes: u64,
 ) -> Result<(), AllocError>
-    ensures { OnOk result (report.new ≡ report.old ++ between_lines required figures.low figures.high figures.cause pair.now nodes) }
+    ensures { OnOk result (report.new ≡ report.old ++ between_lines ended.entry figures.low figures.high figures.cause pair.now nodes) }
 {
     let Figures { low, high, cause } = figures;
     let first = vector_of(alloc, pair.first())?;
     let second = vector_of(alloc, pair.second())?;
     report.add(Line::Between { low, high })?;
     report.four(
-        Line::Cause(cause_by(required, low, high, cause)),
+        cause_line(ended, low, high, cause),
         Line::From(first),
         Line::To(second),
         Line::Nodes(nodes),
     )?;
-    push_required(report, required, low, high)
+    push_end(report, ended, low, high)
 }

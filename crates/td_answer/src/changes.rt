@@ -6,9 +6,11 @@ ghost use Rattle.td_certificate.specs.Accepts.{are_fit};
 ghost use Rattle.td_question.specs.Keeping.{count_nets};
 ghost use Rattle.td_answer.specs.Columns.{IsOnlyOutput, where_settles, pairs_of, AreTrueChanges, asks_changes, asks_figures, HasChanges, is_known, is_answered, are_closed};
 ghost use Rattle.td_answer.specs.Findings.{IsTrueFound, is_closed};
+ghost use Rattle.td_answer.specs.Outlooks.{IsTrueOutlook};
 ghost use Rattle.td_answer.specs.Tables.{IsUnanswered};
 
 use crate::alone::{Alone, Inquiry, Settled, answer_where, kept_found, output_number};
+use crate::outlook::Outlook;
 use crate::refusal::Refusal;
 use std::alloc::Global;
 use std::sync::Wait;
@@ -55,6 +57,7 @@ fn found_where<'n, 'w, R: Threads + Wait + Sync>(
     requires held { length alone.inquiry.admit.now.held ≡ length alone.circuit.now.netlist.inputs }
     requires fit { are_fit (count_nets alone.circuit.now.netlist) alone.inquiry.keep.now ≡ true }
     requires output { IsOnlyOutput alone.circuit.now.netlist alone.net }
+    requires outlook { IsTrueOutlook (setting alone.circuit.now) alone.inquiry.admit.now alone.outlook }
     ensures found { IfOk result (IsTrueFound (setting alone.entry.circuit.now)
         (where_settles (pairs_of alone.entry.inquiry) alone.entry.net settled.form)) }
     ensures refusal { IfErr result (IsUnanswered alone.entry.inquiry.admit.now) }
@@ -77,6 +80,7 @@ fn changes_of<'n, 'w, R: Threads + Wait + Sync>(
     requires held { length alone.inquiry.admit.now.held ≡ length alone.circuit.now.netlist.inputs }
     requires fit { are_fit (count_nets alone.circuit.now.netlist) alone.inquiry.keep.now ≡ true }
     requires output { IsOnlyOutput alone.circuit.now.netlist alone.net }
+    requires outlook { IsTrueOutlook (setting alone.circuit.now) alone.inquiry.admit.now alone.outlook }
     ensures changes { IfOk result (AreTrueChanges (setting alone.entry.circuit.now) (pairs_of alone.entry.inquiry)) }
     ensures refusal { IfErr result (IsUnanswered alone.entry.inquiry.admit.now) }
 {
@@ -103,11 +107,13 @@ pub(crate) fn changes_in<'n, 'w, R: Threads + Wait + Sync>(
     rt: &R,
     alloc: Global,
     circuit: &Circuit,
+    outlook: Outlook,
     inquiry: Inquiry<'_, 'w>,
 ) -> Result<Option<Changes>, Refusal<'n, 'w>>
     requires held { length inquiry.admit.now.held ≡ length circuit.now.netlist.inputs }
     requires fit { are_fit (count_nets circuit.now.netlist) inquiry.keep.now ≡ true }
     requires output { length circuit.now.netlist.outputs ≡ 1 }
+    requires outlook { IsTrueOutlook (setting circuit.now) inquiry.admit.now outlook }
     ensures changes { IfOk result (HasChanges inquiry.entry.search.now.table (setting circuit.now) (pairs_of inquiry.entry)) }
     ensures refusal { IfErr result (IsUnanswered inquiry.entry.admit.now) }
 {
@@ -118,6 +124,7 @@ pub(crate) fn changes_in<'n, 'w, R: Threads + Wait + Sync>(
     let alone = Alone {
         circuit,
         net,
+        outlook,
         inquiry,
     };
     let changes = changes_of(rt, alloc, alone)?;

@@ -8,10 +8,9 @@ ghost use Rattle.td_certificate.specs.Spelling.{DefaultField, OutputField, First
 ghost use Rattle.td_lines.specs.declared.line.Line.TheVariants as line;
 ghost use Rattle.td_answer.specs.Claims.{accepted_line, claimed_line, field_line, told_line, question_lines, claim_lines};
 
-use crate::conditions::conditions;
 use crate::pins::{marks, trits};
 use std::alloc::{AllocError, Global};
-use td_certificate::{Certificate, Claim, Question, Terms, Version};
+use td_certificate::{Certificate, Claim, Question, Terms, Version, conditions_text};
 use td_lines::{Label, Line, Moments, Report};
 
 /// The line of the time of an accepted certificate, and of its other moment where that is another
@@ -194,7 +193,7 @@ fn tell_keep(alloc: Global, report: &mut Report, question: &Question) -> Result<
     if keep.is_empty() {
         return Ok(());
     }
-    let row = conditions(alloc, keep)?;
+    let row = conditions_text(alloc, keep)?;
     report.add(Line::Keep(Label::new(row)))
 }
 

@@ -1,18 +1,20 @@
 //! The worst delay of each output by itself, as a table.
 
-ghost use Rattle.std.specs.Prelude.{◌≡◌, true, ◌<◌, ◌*◌, length, slice_get, Some, IfOk, IfErr, OnOk, None as Nothing};
+ghost use Rattle.std.specs.Prelude.{◌≡◌, ◌⊎◌, true, ◌<◌, length, slice_get, Some, IfOk, IfErr, OnOk, None as Nothing};
 ghost use Rattle.std.specs.List.{AllZip};
 ghost use Rattle.td_nets.specs.Netlist.{Name as Named};
 ghost use Rattle.td_circuit.specs.Numbering.{setting};
-ghost use Rattle.td_certificate.specs.declared.tree.BoundedBy.TheVariants as by;
+ghost use Rattle.td_source.specs.Each.{alone};
 ghost use Rattle.td_certificate.specs.Accepts.{are_fit};
+ghost use Rattle.td_search.specs.Problems.{Problem};
+ghost use Rattle.td_question.specs.Asking.{IsAsked};
 ghost use Rattle.td_question.specs.Keeping.{count_nets};
 ghost use Rattle.td_answer.specs.Additions.{AddsLines};
-ghost use Rattle.td_answer.specs.Bounds.{IsSoundBound};
 ghost use Rattle.td_answer.specs.Searches.{IsRefusedSearch};
 ghost use Rattle.td_answer.specs.Columns.{pairs_of};
-ghost use Rattle.td_answer.specs.Findings.{found_of};
-ghost use Rattle.td_answer.specs.Tables.{is_open, is_late, is_settled, is_violated, any_violated, open_ending, table_ending, AreTrueFigures, IsTrueRow, AreEach, IsUnanswered, IsTrueTable};
+ghost use Rattle.td_answer.specs.Findings.{found_of, IsTrueFound};
+ghost use Rattle.td_answer.specs.Outlooks.{IsTrueOutlook};
+ghost use Rattle.td_answer.specs.Tables.{is_open, is_late, is_settled, is_violated, any_violated, open_ending, table_ending, IsTrueRow, AreEach, IsUnanswered, IsTrueTable};
 ghost use Rattle.td_answer.specs.Writing.{CanBeWritten};
 
 use crate::alone::{Inquiry, kept_found};
@@ -20,16 +22,16 @@ use crate::changes::{are_closed, asks_figures, changes_in, is_closed};
 use crate::head::begun;
 use crate::names::label;
 use crate::outcome::Outcome;
+use crate::outlook::{Outlook, outlooks, unsearched};
 use crate::refusal::Refusal;
 use crate::requirement::requirement_of;
 use crate::status::Status;
+use crate::watch::{Begun, TableWatch};
 use crate::worst::{limits_of, method_of};
 use std::alloc::{AllocError, Global};
 use std::sync::Wait;
 use std::thread::Threads;
 use td_circuit::Circuit;
-use td_domain::{Cube, bound};
-use td_edges::Edges;
 use td_lines::{Found, Line, Report, Requirement, Row, Standing};
 use td_pool::Unwatched;
 use td_question::{Asked, question_of};
@@ -39,13 +41,6 @@ use td_search::Answer;
 use td_source::EachOutput;
 use td_stop::Stop;
 use td_worst::{KeptAnswer, KeptQuestion, Question};
-
-/// What is found of an output: its worst delay, and its bound by edges.
-#[derive(Clone, Copy, Debug)]
-struct Timing {
-    found: Found,
-    edges: Option<u64>,
-}
 
 /// What an answer says of the worst delay.
 fn found_of(answer: &Answer) -> Found
@@ -60,25 +55,16 @@ fn found_of(answer: &Answer) -> Found
     }
 }
 
-/// The latest moment by edges, for the pairs of a cube.
-fn edges_of(alloc: Global, circuit: &Circuit, cube: &Cube) -> Result<Option<u64>, AllocError>
-    requires { length cube.now ≡ 2 * length circuit.now.netlist.inputs }
-    ensures { IfOk result (IsSoundBound by.Edges (setting circuit.now) cube.now) }
-{
-    let edges = bound::<Edges>(alloc, circuit, cube)?;
-    Ok(edges)
-}
-
-/// What is found of the pairs of a circuit that are asked about.
-fn timing_of<'n, 'w, R: Threads + Wait + Sync>(
+/// What a search finds of the pairs of a circuit that are asked about.
+fn searched<'n, 'w, R: Threads + Wait + Sync>(
     rt: &R,
     alloc: Global,
     circuit: &Circuit,
     inquiry: Inquiry<'_, 'w>,
-) -> Result<Timing, Refusal<'n, 'w>>
+) -> Result<Found, Refusal<'n, 'w>>
     requires held { length inquiry.admit.now.held ≡ length circuit.now.netlist.inputs }
     requires fit { are_fit (count_nets circuit.now.netlist) inquiry.keep.now ≡ true }
-    ensures timing { IfOk result (λ timing. AreTrueFigures (setting circuit.now) (pairs_of inquiry.entry) timing.found timing.edges) }
+    ensures found { IfOk result (IsTrueFound (setting circuit.now) (pairs_of inquiry.entry)) }
     ensures refusal { IfErr result (IsUnanswered inquiry.entry.admit.now) }
 {
     let Inquiry {
@@ -87,7 +73,6 @@ fn timing_of<'n, 'w, R: Threads + Wait + Sync>(
         search,
         limits,
     } = inquiry;
-    let edges = edges_of(alloc, circuit, admit.pins())?;
     if !keep.is_empty() {
         let question = KeptQuestion {
             circuit,
@@ -95,11 +80,8 @@ fn timing_of<'n, 'w, R: Threads + Wait + Sync>(
             keep,
             required: search.required,
         };
-        let answer = td_worst::worst_kept(rt, alloc, question, limits)?;
-        return Ok(Timing {
-            found: kept_found(&answer),
-            edges,
-        });
+        let kept = td_worst::worst_kept(rt, alloc, question, limits)?;
+        return Ok(kept_found(&kept.answer));
     }
     let question = Question {
         circuit,
@@ -108,10 +90,27 @@ fn timing_of<'n, 'w, R: Threads + Wait + Sync>(
         required: search.required,
     };
     let found = td_worst::worst(rt, alloc, question, limits, &mut Unwatched)?;
-    Ok(Timing {
-        found: found_of(&found.answer),
-        edges,
-    })
+    Ok(found_of(&found.answer))
+}
+
+/// What is found of the output that a circuit is asked about alone.
+fn found_in<'n, 'w, R: Threads + Wait + Sync>(
+    rt: &R,
+    alloc: Global,
+    circuit: &Circuit,
+    outlook: Outlook,
+    inquiry: Inquiry<'_, 'w>,
+) -> Result<Found, Refusal<'n, 'w>>
+    requires held { length inquiry.admit.now.held ≡ length circuit.now.netlist.inputs }
+    requires fit { are_fit (count_nets circuit.now.netlist) inquiry.keep.now ≡ true }
+    requires outlook { IsTrueOutlook (setting circuit.now) inquiry.admit.now outlook }
+    ensures found { IfOk result (IsTrueFound (setting circuit.now) (pairs_of inquiry.entry)) }
+    ensures refusal { IfErr result (IsUnanswered inquiry.entry.admit.now) }
+{
+    if let Some(found) = unsearched(outlook, inquiry) {
+        return Ok(found);
+    }
+    searched(rt, alloc, circuit, inquiry)
 }
 
 /// The row of the output at this place, which is asked about alone.
@@ -120,11 +119,14 @@ fn row_of<'n, 'w, R: Threads + Wait + Sync>(
     alloc: Global,
     outputs: &mut EachOutput,
     place: usize,
+    outlook: Outlook,
     inquiry: Inquiry<'_, 'w>,
 ) -> Result<Row, Refusal<'n, 'w>>
     requires place { place < length outputs.old.whole.netlist.outputs }
     requires held { length inquiry.admit.now.held ≡ length outputs.old.whole.netlist.inputs }
     requires fit { are_fit (count_nets outputs.old.whole.netlist) inquiry.keep.now ≡ true }
+    requires outlook { (output : Named) → slice_get outputs.old.whole.netlist.outputs place ≡ Some output
+        → IsTrueOutlook (alone (setting outputs.old.whole) output) inquiry.admit.now outlook }
     ensures row { IfOk result (λ row. (output : Named) → slice_get outputs.old.whole.netlist.outputs place ≡ Some output
         → IsTrueRow (setting outputs.old.whole) (pairs_of inquiry.entry) inquiry.entry.search.now output row) }
     ensures whole { outputs.new.whole ≡ outputs.old.whole }
@@ -133,35 +135,57 @@ fn row_of<'n, 'w, R: Threads + Wait + Sync>(
     let output = label(alloc, &outputs.names()[place])?;
     outputs.ask(alloc, place)?;
     let circuit = outputs.circuit();
-    let Timing { found, edges } = timing_of(rt, alloc, circuit, inquiry)?;
-    let changes = changes_in(rt, alloc, circuit, inquiry)?;
+    let found = found_in(rt, alloc, circuit, outlook, inquiry)?;
+    let changes = changes_in(rt, alloc, circuit, outlook, inquiry)?;
     let required = requirement_of(inquiry.search.required, found);
     Ok(Row {
         output,
         found,
-        edges,
+        edges: outlook.edges,
         changes,
         required,
     })
 }
 
+/// Tells a watch that the row of the output at this place is begun, unless memory runs out.
+fn tell<W: TableWatch>(alloc: Global, outputs: &EachOutput, place: usize, watch: &mut W)
+    requires { place < length outputs.now.whole.netlist.outputs }
+    ensures { (asked : Problem) → W.reported asked watch.old watch.new }
+{
+    let names = outputs.names();
+    let Ok(output) = label(alloc, &names[place]) else {
+        return;
+    };
+    watch.begun(Begun {
+        output: output.text(),
+        done: place as u64,
+        rows: names.len() as u64,
+    });
+}
+
 /// A row for each output, in order.
-fn rows<'n, 'w, R: Threads + Wait + Sync>(
+fn rows<'n, 'w, W: TableWatch, R: Threads + Wait + Sync>(
     rt: &R,
     alloc: Global,
     outputs: &mut EachOutput,
+    outlooks: &[Outlook],
     inquiry: Inquiry<'_, 'w>,
+    watch: &mut W,
 ) -> Result<Vec<Row>, Refusal<'n, 'w>>
     requires held { length inquiry.admit.now.held ≡ length outputs.old.whole.netlist.inputs }
     requires fit { are_fit (count_nets outputs.old.whole.netlist) inquiry.keep.now ≡ true }
+    requires outlooks { AllZip (λ output. IsTrueOutlook (alone (setting outputs.old.whole) output) inquiry.admit.now)
+        outputs.old.whole.netlist.outputs outlooks.now }
     ensures rows { IfOk result (λ rows. AllZip (IsTrueRow (setting outputs.old.whole) (pairs_of inquiry.entry) inquiry.entry.search.now)
         outputs.old.whole.netlist.outputs rows.items) }
     ensures refusal { IfErr result (IsUnanswered inquiry.entry.admit.now) }
+    ensures reported { (asked : Problem) → W.reported asked watch.old watch.new }
 {
     let count = outputs.names().len();
     let mut rows = Vec::new(alloc);
     for place in 0..count {
-        let row = row_of(rt, alloc, outputs, place, inquiry)?;
+        tell(alloc, outputs, place, watch);
+        let row = row_of(rt, alloc, outputs, place, outlooks[place], inquiry)?;
         rows.push(row)?;
     }
     Ok(rows)
@@ -251,18 +275,21 @@ fn push_rows(report: &mut Report, rows: Vec<Row>) -> Result<(), AllocError>
 }
 
 /// The table of what a request asks of a text: a row for each output, which is asked about alone.
-pub(crate) fn table<'n, 'w, R: Threads + Wait + Sync>(
+pub(crate) fn table<'n, 'w, 'a, W: TableWatch, R: Threads + Wait + Sync>(
     rt: &R,
     alloc: Global,
     text: &'n [u8],
     reading: &Reading<'_>,
-    search: &Search<'w>,
-    stop: &Stop,
+    search: &'a Search<'w>,
+    stop: &'a Stop,
+    watch: &mut W,
 ) -> Result<Outcome, Refusal<'n, 'w>>
     ensures says { IfOk result (IsTrueTable text.now reading.now search.now) }
     ensures certified { IfOk result (λ outcome. outcome.certificate ≡ Nothing) }
     ensures written { IfOk result CanBeWritten }
     ensures refusal { IfErr result (IsRefusedSearch text.now reading.now search.now) }
+    ensures reported { (watch.new ≡ watch.old)
+        ⊎ ((asked : Problem) × IsAsked text.now reading.now search.now.question asked.setting asked.admit × W.reported asked watch.old watch.new) }
 {
     let Asked {
         circuit,
@@ -271,6 +298,7 @@ pub(crate) fn table<'n, 'w, R: Threads + Wait + Sync>(
         ..
     } = question_of(alloc, text, reading, &search.question)?;
     let mut report = begun(alloc, &circuit)?;
+    let outlooks = outlooks(alloc, &circuit, &admit)?;
     let mut outputs = EachOutput::of(alloc, circuit)?;
     let inquiry = Inquiry {
         admit: &admit,
@@ -278,7 +306,7 @@ pub(crate) fn table<'n, 'w, R: Threads + Wait + Sync>(
         search,
         limits: limits_of(&search.effort, stop),
     };
-    let rows = rows(rt, alloc, &mut outputs, inquiry)?;
+    let rows = rows(rt, alloc, &mut outputs, &outlooks, inquiry, watch)?;
     let status = ending(asks_figures(search.table), &rows);
     push_rows(&mut report, rows)?;
     Ok(Outcome {

@@ -5,6 +5,7 @@ ghost use Rattle.std.specs.List.{AllZip};
 ghost use Rattle.td_nets.specs.Netlist.{Name as Named};
 ghost use Rattle.td_circuit.specs.Settings.{Setting};
 ghost use Rattle.td_circuit.specs.Numbering.{setting};
+ghost use Rattle.td_source.specs.Each.{alone};
 ghost use Rattle.td_certificate.specs.Accepts.{are_fit};
 ghost use Rattle.td_refutation.specs.Asking.{Asking};
 ghost use Rattle.td_refute.specs.Kept.{IsBoundAmong};
@@ -14,6 +15,7 @@ ghost use Rattle.td_question.specs.Keeping.{count_nets};
 ghost use Rattle.td_answer.specs.Additions.{AddsLines};
 ghost use Rattle.td_answer.specs.Columns.{IsOnlyOutput, where_settles, pairs_of, IsTrueAnswer};
 ghost use Rattle.td_answer.specs.Hazards.{IsTrueHazard, settles_at, IsTrueHazardRow, all_at_both, AreHazards, is_open, hazards_ending, AreTrueHazards};
+ghost use Rattle.td_answer.specs.Outlooks.{IsTrueOutlook};
 ghost use Rattle.td_answer.specs.Searches.{IsRefusedSearch};
 ghost use Rattle.td_answer.specs.Tables.{IsUnanswered};
 ghost use Rattle.td_answer.specs.Writing.{CanBeWritten};
@@ -23,6 +25,7 @@ use crate::answers::vector_of;
 use crate::head::begun;
 use crate::names::label;
 use crate::outcome::Outcome;
+use crate::outlook::{Outlook, outlooks};
 use crate::refusal::Refusal;
 use crate::status::Status;
 use crate::worst::limits_of;
@@ -103,6 +106,7 @@ fn hazard_at<'n, 'w, R: Threads + Wait + Sync>(
     requires held { length alone.inquiry.admit.now.held ≡ length alone.circuit.now.netlist.inputs }
     requires fit { are_fit (count_nets alone.circuit.now.netlist) alone.inquiry.keep.now ≡ true }
     requires output { IsOnlyOutput alone.circuit.now.netlist alone.net }
+    requires outlook { IsTrueOutlook (setting alone.circuit.now) alone.inquiry.admit.now alone.outlook }
     ensures hazard { IfOk result (IsTrueHazard (setting alone.entry.circuit.now)
         (where_settles (pairs_of alone.entry.inquiry) alone.entry.net (settles_at level))) }
     ensures refusal { IfErr result (IsUnanswered alone.entry.inquiry.admit.now) }
@@ -129,11 +133,14 @@ fn both_of<'n, 'w, R: Threads + Wait + Sync>(
     alloc: Global,
     outputs: &mut EachOutput,
     place: usize,
+    outlook: Outlook,
     inquiry: Inquiry<'_, 'w>,
 ) -> Result<Both, Refusal<'n, 'w>>
     requires place { place < length outputs.old.whole.netlist.outputs }
     requires held { length inquiry.admit.now.held ≡ length outputs.old.whole.netlist.inputs }
     requires fit { are_fit (count_nets outputs.old.whole.netlist) inquiry.keep.now ≡ true }
+    requires outlook { (output : Named) → slice_get outputs.old.whole.netlist.outputs place ≡ Some output
+        → IsTrueOutlook (alone (setting outputs.old.whole) output) inquiry.admit.now outlook }
     ensures rows { IfOk result (λ both. (output : Named) → slice_get outputs.old.whole.netlist.outputs place ≡ Some output
         → IsTrueHazardRow (setting outputs.old.whole) (pairs_of inquiry.entry) (output, false) both.low
         × IsTrueHazardRow (setting outputs.old.whole) (pairs_of inquiry.entry) (output, true) both.high) }
@@ -147,6 +154,7 @@ fn both_of<'n, 'w, R: Threads + Wait + Sync>(
     let alone = Alone {
         circuit,
         net: output_number(circuit),
+        outlook,
         inquiry,
     };
     let low = hazard_at(rt, alloc, alone, false)?;
@@ -170,10 +178,13 @@ fn rows<'n, 'w, R: Threads + Wait + Sync>(
     rt: &R,
     alloc: Global,
     outputs: &mut EachOutput,
+    outlooks: &[Outlook],
     inquiry: Inquiry<'_, 'w>,
 ) -> Result<Vec<HazardRow>, Refusal<'n, 'w>>
     requires held { length inquiry.admit.now.held ≡ length outputs.old.whole.netlist.inputs }
     requires fit { are_fit (count_nets outputs.old.whole.netlist) inquiry.keep.now ≡ true }
+    requires outlooks { AllZip (λ output. IsTrueOutlook (alone (setting outputs.old.whole) output) inquiry.admit.now)
+        outputs.old.whole.netlist.outputs outlooks.now }
     ensures rows { IfOk result (λ rows. AllZip (IsTrueHazardRow (setting outputs.old.whole) (pairs_of inquiry.entry))
         (all_at_both outputs.old.whole.netlist.outputs) rows.items) }
     ensures refusal { IfErr result (IsUnanswered inquiry.entry.admit.now) }
@@ -181,7 +192,7 @@ fn rows<'n, 'w, R: Threads + Wait + Sync>(
     let count = outputs.names().len();
     let mut rows = Vec::new(alloc);
     for place in 0..count {
-        let Both { low, high } = both_of(rt, alloc, outputs, place, inquiry)?;
+        let Both { low, high } = both_of(rt, alloc, outputs, place, outlooks[place], inquiry)?;
         rows.push(low)?;
         rows.push(high)?;
     }
@@ -221,13 +232,13 @@ fn push_rows(report: &mut Report, rows: Vec<HazardRow>) -> Result<(), AllocError
 }
 
 /// The hazards of each output of what a request asks of a text, which is asked about alone.
-pub(crate) fn hazards<'n, 'w, R: Threads + Wait + Sync>(
+pub(crate) fn hazards<'n, 'w, 'a, R: Threads + Wait + Sync>(
     rt: &R,
     alloc: Global,
     text: &'n [u8],
     reading: &Reading<'_>,
-    search: &Search<'w>,
-    stop: &Stop,
+    search: &'a Search<'w>,
+    stop: &'a Stop,
 ) -> Result<Outcome, Refusal<'n, 'w>>
     ensures says { IfOk result (AreTrueHazards text.now reading.now search.now) }
     ensures certified { IfOk result (λ outcome. outcome.certificate ≡ Nothing) }
@@ -241,6 +252,7 @@ pub(crate) fn hazards<'n, 'w, R: Threads + Wait + Sync>(
         ..
     } = question_of(alloc, text, reading, &search.question)?;
     let mut report = begun(alloc, &circuit)?;
+    let outlooks = outlooks(alloc, &circuit, &admit)?;
     let mut outputs = EachOutput::of(alloc, circuit)?;
     let inquiry = Inquiry {
         admit: &admit,
@@ -248,7 +260,7 @@ pub(crate) fn hazards<'n, 'w, R: Threads + Wait + Sync>(
         search,
         limits: limits_of(&search.effort, stop),
     };
-    let rows = rows(rt, alloc, &mut outputs, inquiry)?;
+    let rows = rows(rt, alloc, &mut outputs, &outlooks, inquiry)?;
     let status = ending(&rows);
     push_rows(&mut report, rows)?;
     Ok(Outcome {

@@ -26,15 +26,16 @@ ghost use Rattle.td_answer.specs.Searches.{IsRefusedSearch};
 ghost use Rattle.td_answer.specs.Writing.{CanBeWritten};
 ghost use Rattle.td_answer.specs.declared.status.Status.TheVariants as status;
 
-use crate::answers::{Figures, push_between, push_exact};
+use crate::answers::{Figures, cause_line, push_between, push_end, push_exact};
 use crate::beside::push_run;
+use crate::ended::Ended;
 use crate::head::begun;
 use crate::joined::push_none;
 use crate::kept_certificate::{Told, kept_certificate};
 use crate::open_certificate::{Open, open_certificate};
 use crate::outcome::Outcome;
 use crate::refusal::Refusal;
-use crate::requirement::{cause_by, cause_of, ending_by, push_required};
+use crate::requirement::ending_by;
 use crate::status::Status;
 use crate::worst::{dump_of, limits_of};
 use std::alloc::{AllocError, Global};
@@ -59,22 +60,23 @@ fn exact(
     told: Told,
     best: Timed,
     tree: Tree,
-    search: &Search<'_>,
+    ended: Ended<'_, '_>,
 ) -> Result<Outcome, AllocError>
     requires flips { admit.flips ≤ length admit.held }
     requires first_fits { length best.pair.first ≡ length circuit.netlist.inputs }
     requires second_fits { length best.pair.second ≡ length circuit.netlist.inputs }
-    ensures report { IfOk result (λ outcome. AddsLines (TellsPair search.now.shown (setting circuit) best.pair)
-        (head_lines circuit.netlist ++ exact_lines search.now.required best.time best.pair (length tree)) outcome.report) }
+    ensures report { IfOk result (λ outcome. AddsLines (TellsPair ended.entry.search.now.shown (setting circuit) best.pair)
+        (head_lines circuit.netlist ++ exact_lines ended.entry best.time best.pair (length tree)) outcome.report) }
     ensures certificate { IfOk result (λ outcome. outcome.certificate ≡ Some (certificate_with (setting circuit) admit (kept_terms told) (Some (claim_of best)) tree)) }
     ensures told { IfOk result (λ outcome. AreConditions told.keep.items → AreTerms (Some (kept_terms told))) }
     ensures few { IfOk result (λ outcome. length told.keep.items ≤ 5000 → HaveFew (Some (kept_terms told))) }
-    ensures dumped { IfOk result (λ outcome. IsDumpWhere (is_some search.now.dump) (setting circuit) (RunsPair (setting circuit) best.pair) outcome.dump) }
-    ensures status { IfOk result (λ outcome. outcome.status ≡ ending_by search.now.required status.Done best.time best.time) }
+    ensures dumped { IfOk result (λ outcome. IsDumpWhere (is_some ended.entry.search.now.dump) (setting circuit) (RunsPair (setting circuit) best.pair) outcome.dump) }
+    ensures status { IfOk result (λ outcome. outcome.status ≡ ending_by ended.entry.search.now.required status.Done best.time best.time) }
 {
+    let search = ended.search;
     let Timed { pair, time } = best;
     let mut report = begun(alloc, &circuit)?;
-    push_exact(alloc, &mut report, search.required, time, &pair, &tree)?;
+    push_exact(alloc, &mut report, ended, time, &pair, &tree)?;
     push_run(alloc, &mut report, &circuit, &pair, search.shown)?;
     let shown = pair.copy(alloc)?;
     let claim = Claim {
@@ -101,7 +103,7 @@ fn between(
     told: Told,
     known: Open,
     why: Cause,
-    search: &Search<'_>,
+    ended: Ended<'_, '_>,
 ) -> Result<Outcome, AllocError>
     requires held { length admit.held ≡ length circuit.netlist.inputs }
     requires flips { admit.flips ≤ length admit.held }
@@ -111,12 +113,13 @@ fn between(
     requires timed { IsTimedAmong (setting circuit) (asking_by admit told.keep.items) known.best }
     requires ordered { known.best.time ≤ known.high }
     requires shown { IsSupportAmong (setting circuit) (asking_by admit told.keep.items) known.support }
-    ensures report { IfOk result (λ outcome. AddsLines (TellsPair search.now.shown (setting circuit) known.best.pair)
-        (head_lines circuit.netlist ++ between_lines search.now.required known.best.time known.high why known.best.pair 0) outcome.report) }
-    ensures certificate { IfOk result (λ outcome. IfSome outcome.certificate (IsWantedCertificate search.now (setting circuit) admit told known.best known.high)) }
-    ensures dumped { IfOk result (λ outcome. IsDumpWhere (is_some search.now.dump) (setting circuit) (RunsPair (setting circuit) known.best.pair) outcome.dump) }
-    ensures status { IfOk result (λ outcome. outcome.status ≡ ending_by search.now.required status.Between known.best.time known.high) }
+    ensures report { IfOk result (λ outcome. AddsLines (TellsPair ended.entry.search.now.shown (setting circuit) known.best.pair)
+        (head_lines circuit.netlist ++ between_lines ended.entry known.best.time known.high why known.best.pair 0) outcome.report) }
+    ensures certificate { IfOk result (λ outcome. IfSome outcome.certificate (IsWantedCertificate ended.entry.search.now (setting circuit) admit told known.best known.high)) }
+    ensures dumped { IfOk result (λ outcome. IsDumpWhere (is_some ended.entry.search.now.dump) (setting circuit) (RunsPair (setting circuit) known.best.pair) outcome.dump) }
+    ensures status { IfOk result (λ outcome. outcome.status ≡ ending_by ended.entry.search.now.required status.Between known.best.time known.high) }
 {
+    let search = ended.search;
     let figures = Figures {
         low: known.best.time,
         high: known.high,
@@ -124,7 +127,7 @@ fn between(
     };
     let mut report = begun(alloc, &circuit)?;
     let pair = &known.best.pair;
-    push_between(alloc, &mut report, search.required, figures, pair, 0)?;
+    push_between(alloc, &mut report, ended, figures, pair, 0)?;
     push_run(alloc, &mut report, &circuit, pair, search.shown)?;
     let pair = pair.copy(alloc)?;
     let Figures { low, high, .. } = figures;
@@ -145,23 +148,22 @@ fn at_most(
     circuit: &Circuit,
     high: u64,
     why: Cause,
-    search: &Search<'_>,
+    ended: Ended<'_, '_>,
 ) -> Result<Outcome, AllocError>
-    ensures report { IfOk result (λ outcome. outcome.report ≡ head_lines circuit.now.netlist ++ at_most_lines search.now.required high why) }
+    ensures report { IfOk result (λ outcome. outcome.report ≡ head_lines circuit.now.netlist ++ at_most_lines ended.entry high why) }
     ensures certificate { IfOk result (λ outcome. outcome.certificate ≡ Nothing) }
     ensures dumped { IfOk result (λ outcome. outcome.dump ≡ Nothing) }
-    ensures status { IfOk result (λ outcome. outcome.status ≡ ending_by search.now.required status.Between 0 high) }
+    ensures status { IfOk result (λ outcome. outcome.status ≡ ending_by ended.entry.search.now.required status.Between 0 high) }
 {
-    let required = search.required;
     let mut report = begun(alloc, circuit)?;
     report.add(Line::AtMost(high))?;
-    report.add(Line::Cause(cause_by(required, 0, high, why)))?;
-    push_required(&mut report, required, 0, high)?;
+    report.add(cause_line(ended, 0, high, why))?;
+    push_end(&mut report, ended, 0, high)?;
     Ok(Outcome {
         report,
         certificate: None,
         dump: None,
-        status: ending_by(required, Status::Between, 0, high),
+        status: ending_by(ended.search.required, Status::Between, 0, high),
         verdict: None,
     })
 }
@@ -201,25 +203,24 @@ fn outcome_of(
     admit: Admit,
     told: Told,
     answer: KeptAnswer,
-    search: &Search<'_>,
-    was_asked: bool,
+    ended: Ended<'_, '_>,
 ) -> Result<Outcome, AllocError>
     requires held { length admit.held ≡ length circuit.netlist.inputs }
     requires flips { admit.flips ≤ length admit.held }
     requires fit { are_fit (2 + length circuit.netlist.inputs + length circuit.netlist.gates) told.keep.items ≡ true }
     requires answer { IsKeptAnswer (setting circuit) (record { admit = admit; keep = told.keep.items }) answer }
-    ensures says { IfOk result (λ outcome. (text : List ℕ) (reading : Read) → IsAskedKeeping text reading search.now.question (setting circuit) (record { admit = admit; keep = told.keep.items })
-        → IsTrueKept text reading search.now outcome) }
-    ensures certified { IfOk result (λ outcome. (text : List ℕ) (reading : Read) → IsAskedKeeping text reading search.now.question (setting circuit) (record { admit = admit; keep = told.keep.items })
+    ensures says { IfOk result (λ outcome. (text : List ℕ) (reading : Read) → IsAskedKeeping text reading ended.entry.search.now.question (setting circuit) (record { admit = admit; keep = told.keep.items })
+        → IsTrueKept text reading ended.entry.search.now outcome) }
+    ensures certified { IfOk result (λ outcome. (text : List ℕ) (reading : Read) → IsAskedKeeping text reading ended.entry.search.now.question (setting circuit) (record { admit = admit; keep = told.keep.items })
         → AreOutputsOf text reading (option_map (λ numbers. numbers.items) told.outputs) → told.default ≡ reading.default
-        → IsCertifiedAmong text reading search.now outcome.report outcome.certificate) }
+        → IsCertifiedAmong text reading ended.entry.search.now outcome.report outcome.certificate) }
     ensures written { IfOk result CanBeWritten }
 {
     // For the prover: the circuit's numbering.
     let _gates = circuit.gates();
     match answer {
         KeptAnswer::Exact { best, tree } => {
-            let closed = exact(alloc, circuit, admit, told, best, tree, search)?;
+            let closed = exact(alloc, circuit, admit, told, best, tree, ended)?;
             Ok(closed)
         }
         KeptAnswer::Between {
@@ -234,13 +235,13 @@ fn outcome_of(
                 high,
                 support,
             };
-            let why = cause_of(cause, was_asked);
-            let lying = between(alloc, circuit, admit, told, known, why, search)?;
+            let why = ended.cause(cause, 0);
+            let lying = between(alloc, circuit, admit, told, known, why, ended)?;
             Ok(lying)
         }
         KeptAnswer::Open { high, cause } => {
-            let why = cause_of(cause, was_asked);
-            let bounded = at_most(alloc, &circuit, high, why, search)?;
+            let why = ended.cause(cause, 0);
+            let bounded = at_most(alloc, &circuit, high, why, ended)?;
             Ok(bounded)
         }
         KeptAnswer::NoPair { tree } => {
@@ -282,13 +283,17 @@ pub(crate) fn worst_kept<'n, 'w, R: Threads + Wait + Sync>(
         required: search.required,
     };
     let limits = limits_of(&search.effort, stop);
-    let answer = td_worst::worst_kept(rt, alloc, question, limits)?;
-    let was_asked = stop.was_asked();
+    let found = td_worst::worst_kept(rt, alloc, question, limits)?;
+    let ended = Ended {
+        search,
+        was_asked: stop.was_asked(),
+        work: found.work,
+    };
     let told = Told {
         default: reading.default,
         outputs,
         keep,
     };
-    let outcome = outcome_of(alloc, circuit, admit, told, answer, search, was_asked)?;
+    let outcome = outcome_of(alloc, circuit, admit, told, found.answer, ended)?;
     Ok(outcome)
 }

@@ -1,7 +1,7 @@
 //! What is known of a required moment.
 
 ghost use Rattle.std.specs.Prelude.{◌≡◌, ◌++◌, OnOk};
-ghost use Rattle.td_answer.specs.Requirements.{standing_of, standing_by, requirement_of, bound_standing, is_decided, required_lines, met_lines, met_ending, cause_of, cause_by, ending_of_standing, ending_by};
+ghost use Rattle.td_answer.specs.Requirements.{standing_of, standing_by, requirement_of, bound_standing, is_decided, required_lines, met_lines, met_ending, cause_by, ending_of_standing, ending_by};
 
 use crate::status::Status;
 use std::alloc::AllocError;
@@ -67,17 +67,6 @@ pub(crate) fn push_required(
     match required {
         None => Ok(()),
         Some(moment) => report.add(Line::Required(moment, standing_of(moment, low, high))),
-    }
-}
-
-/// Why a search ended. Where its stop was set, it tells whether somebody asked for that.
-pub(crate) fn cause_of(cause: td_search::Cause, was_asked: bool) -> Cause
-    ensures { result ≡ cause_of was_asked cause }
-{
-    match cause {
-        td_search::Cause::Budget => Cause::Budget,
-        td_search::Cause::Memory => Cause::Memory,
-        td_search::Cause::Time => { if was_asked { Cause::Stop } else { Cause::Time } }
     }
 }
 

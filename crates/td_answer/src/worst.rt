@@ -21,6 +21,7 @@ ghost use Rattle.td_answer.specs.Writing.{CanBeWritten};
 use crate::answers::{ending_of, pair_in, report_of};
 use crate::beside::push_run;
 use crate::certifying::{Read, certificate};
+use crate::ended::Ended;
 use crate::kept::worst_kept;
 use crate::kept_certificate::Told;
 use crate::open_certificate::{Open, open_certificate};
@@ -91,15 +92,14 @@ fn reported(
     alloc: Global,
     circuit: &Circuit,
     answer: &Answer,
-    search: &Search<'_>,
-    was_asked: bool,
+    ended: Ended<'_, '_>,
 ) -> Result<Report, AllocError>
     requires first_fits { length (pair_in answer.now).first ≡ length circuit.now.netlist.inputs }
     requires second_fits { length (pair_in answer.now).second ≡ length circuit.now.netlist.inputs }
-    ensures { IfOk result (AddsLines (TellsPair search.now.shown (setting circuit.now) (pair_in answer.now)) (head_lines circuit.now.netlist ++ answer_lines was_asked search.now.required answer.now)) }
+    ensures { IfOk result (AddsLines (TellsPair ended.entry.search.now.shown (setting circuit.now) (pair_in answer.now)) (head_lines circuit.now.netlist ++ answer_lines ended.entry answer.now)) }
 {
-    let mut report = report_of(alloc, circuit, search.required, answer, was_asked)?;
-    push_run(alloc, &mut report, circuit, pair_in(answer), search.shown)?;
+    let mut report = report_of(alloc, circuit, answer, ended)?;
+    push_run(alloc, &mut report, circuit, pair_in(answer), ended.search.shown)?;
     Ok(report)
 }
 
@@ -128,7 +128,9 @@ fn certificate_of(
     ensures { IfOk result (IsCertificateOf telling.told (problem_by telling.strategy circuit.now admit) search.now found.answer) }
 {
     let Telling { told, strategy } = telling;
-    let Found { answer, support } = found;
+    let Found {
+        answer, support, ..
+    } = found;
     match answer {
         Answer::Exact { time, pair, tree } => {
             let moments = Vec::from_slice(alloc, circuit.moments())?;
@@ -168,8 +170,7 @@ fn outcome_of(
     default: Delay,
     strategy: Strategy,
     found: Found,
-    search: &Search<'_>,
-    was_asked: bool,
+    ended: Ended<'_, '_>,
 ) -> Result<Outcome, AllocError>
     requires held { length asked.admit.held ≡ length asked.circuit.netlist.inputs }
     requires flips { asked.admit.flips ≤ length asked.admit.held }
@@ -179,13 +180,13 @@ fn outcome_of(
     requires has { has_delay (problem_by strategy asked.circuit asked.admit) (pair_in found.answer) (low_of found.answer) }
     requires ordered { low_of found.answer ≤ high_of found.answer }
     requires shown { IsSupport (setting asked.circuit) asked.admit found.support }
-    ensures report { IfOk result (λ outcome. AddsLines (TellsPair search.now.shown (setting asked.circuit) (pair_in found.answer))
-        (head_lines asked.circuit.netlist ++ answer_lines was_asked search.now.required found.answer) outcome.report) }
-    ensures certified { IfOk result (λ outcome. IsCertificateOf (told_with default asked.outputs asked.keep) (problem_by strategy asked.circuit asked.admit) search.now
-        found.answer outcome.certificate) }
-    ensures dumped { IfOk result (λ outcome. IsDumpWhere (is_some search.now.dump) (setting asked.circuit)
+    ensures report { IfOk result (λ outcome. AddsLines (TellsPair ended.entry.search.now.shown (setting asked.circuit) (pair_in found.answer))
+        (head_lines asked.circuit.netlist ++ answer_lines ended.entry found.answer) outcome.report) }
+    ensures certified { IfOk result (λ outcome. IsCertificateOf (told_with default asked.outputs asked.keep) (problem_by strategy asked.circuit asked.admit)
+        ended.entry.search.now found.answer outcome.certificate) }
+    ensures dumped { IfOk result (λ outcome. IsDumpWhere (is_some ended.entry.search.now.dump) (setting asked.circuit)
         (RunsPair (setting asked.circuit) (pair_in found.answer)) outcome.dump) }
-    ensures status { IfOk result (λ outcome. outcome.status ≡ ending_of search.now.required found.answer) }
+    ensures status { IfOk result (λ outcome. outcome.status ≡ ending_of ended.entry.search.now.required found.answer) }
 {
     let Asked {
         circuit,
@@ -194,7 +195,8 @@ fn outcome_of(
         keep,
         ..
     } = asked;
-    let report = reported(alloc, &circuit, &found.answer, search, was_asked)?;
+    let search = ended.search;
+    let report = reported(alloc, &circuit, &found.answer, ended)?;
     let status = ending_of(search.required, &found.answer);
     let pair = pair_in(&found.answer).copy(alloc)?;
     let told = Told {
@@ -244,14 +246,18 @@ pub(crate) fn worst<'n, 'w, W: Watch, R: Threads + Wait + Sync>(
         required: search.required,
     };
     let found = td_worst::worst(rt, alloc, question, limits, watch)?;
+    let ended = Ended {
+        search,
+        was_asked: stop.was_asked(),
+        work: found.work,
+    };
     let outcome = outcome_of(
         alloc,
         asked,
         reading.default,
         method.strategy(),
         found,
-        search,
-        stop.was_asked(),
+        ended,
     )?;
     Ok(outcome)
 }

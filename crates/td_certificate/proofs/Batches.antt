@@ -8,13 +8,12 @@ use Rattle.std.proofs.lemmas.Option.{get_or_from_slice_get}
 use Rattle.td_domain.specs.declared.cubes.Trit.{Trit}
 use Rattle.td_text.specs.Output.{Output, one_more, Sent, SentTo, SentFront, Failed}
 use Rattle.td_text.proofs.Outputs.{Sent-then, Sent-failed, SentTo-begins, SentTo-more, SentTo-front, SentTo-then, SentTo-failed, Failed-longer}
-use Rattle.td_refutation.specs.declared.conditions.NamedCondition.{NamedCondition}
 use Rattle.td_certificate.specs.declared.fault.WriteFault.{WriteFault}
 use Rattle.td_certificate.specs.declared.fault.WriteFault.TheVariants as stopping
 use Rattle.td_certificate.specs.Steps.{Refuted, or_none, steps_text, refuted_line}
 use Rattle.td_certificate.specs.Sending.{StopsIn}
 use Rattle.td_certificate.specs.declared.tree.Node.{Node}
-use Rattle.td_certificate.specs.Text.{row, bits, node_line, trit, first_trits, second_trits, numbers, condition, behind_condition, conditions}
+use Rattle.td_certificate.specs.Text.{row, bits, node_line, trit, first_trits, second_trits, numbers}
 use Rattle.td_certificate.proofs.CertificateCode.{high_text, high_lines_text, timed_lines_text, claim_text, claim_lines_text, head_text}
 use Rattle.std.proofs.lemmas.Fmt.{decimal_digit}
 use Rattle.td_certificate.specs.Questions.{Terms}
@@ -224,25 +223,6 @@ trits_pushed second pins i count old text is some le before =
 
 abbrev pub behind_at : ℕ → List ℕ
 behind_at moment = codes " " ++ decimal moment
-
-kept : (c : NamedCondition) (cs : List NamedCondition) → flat_map behind_condition (c ∷ cs) ≡ codes " " ++ conditions (c ∷ cs)
-kept c [] = flat_map-cons behind_condition c [] ∙ append-nil (behind_condition c)
-kept c (d ∷ cs) =
-    flat_map-cons behind_condition c (d ∷ cs) ∙ ap (λ (t : List ℕ). behind_condition c ++ t) (kept d cs)
-    ∙ sym (append_assoc (behind_condition c) (codes " ") (conditions (d ∷ cs)))
-
-pub kept_pushed : (cs : List NamedCondition) (i : ℕ) (old text new : List ℕ) → length cs ≢ 0 → length cs ≤ i
-    → text ≡ old ++ (codes "keep" ++ flat_map behind_condition (take i cs)) → new ≡ text ++ codes "\n" → new ≡ old ++ ended (codes "keep " ++ conditions cs)
-kept_pushed [] i old text new some le before pushed = absurd (some refl)
-kept_pushed (c ∷ cs) i old text new some le before pushed =
-    pushed ∙ ap (λ (t : List ℕ). t ++ codes "\n") (before ∙ ap (λ (ds : List NamedCondition). old ++ (codes "keep" ++ flat_map behind_condition ds)) (take_all i (c ∷ cs) le)
-    ∙ ap (λ (t : List ℕ). old ++ (codes "keep" ++ t)) (kept c cs))
-    ∙ append_assoc old (codes "keep " ++ conditions (c ∷ cs)) (codes "\n")
-
-pub none_kept : (cs : List NamedCondition) (old text new : List ℕ) → length cs ≡ 0 → text ≡ old ++ codes "keep" → new ≡ text ++ codes " none\n"
-    → new ≡ old ++ ended (codes "keep " ++ conditions cs)
-none_kept [] old text new none before pushed = pushed ∙ ap (λ (t : List ℕ). t ++ codes " none\n") before ∙ append_assoc old (codes "keep") (codes " none\n")
-none_kept (c ∷ cs) old text new none before pushed = absurd (omega (arith, none))
 
 -- a space before each number
 pub spaced : (word : List ℕ) (m : ℕ) (ms : List ℕ) → word ++ flat_map behind_at (m ∷ ms) ≡ word ++ (codes " " ++ numbers (m ∷ ms))

@@ -4,6 +4,7 @@
 mod asking;
 mod certificate;
 mod characters;
+mod condition_words;
 mod conditions;
 mod fault;
 mod fields;
@@ -18,6 +19,7 @@ mod tree;
 mod writing;
 
 pub use certificate::{Certificate, Claim};
+pub use condition_words::conditions_text;
 pub use fault::{CertFault, CertFaultKind, WriteFault};
 pub use plain::push_reported;
 pub use question::{Question, Terms, Version};

@@ -8,18 +8,17 @@ ghost use Rattle.td_certificate.specs.Spelling.{fields_of, field_line, default_l
 ghost use Rattle.td_certificate.specs.Steps.{or_none, refuted_line};
 ghost use Rattle.td_certificate.specs.Trees.{is_refuted};
 ghost use Rattle.td_certificate.specs.Sending.{StopsIn};
-ghost use Rattle.td_certificate.specs.Text.{row, bits, trit, first_trits, second_trits, hold, numbers, level_byte, form_text, behind_condition, conditions, node_line};
+ghost use Rattle.td_certificate.specs.Text.{row, bits, trit, first_trits, second_trits, hold, numbers, conditions, node_line};
 
 use crate::certificate::{Certificate, Claim};
+use crate::condition_words::push_conditions;
 use crate::fault::WriteFault;
 use crate::question::{Question, Terms, Version};
 use crate::refuting::Refuted;
 use crate::tree::Node;
 use std::alloc::{AllocError, Global};
 use td_domain::{Cube, Trit};
-use td_gates::Level;
 use td_refutation::NamedCondition;
-use td_spans::Form;
 use td_text::{DeviceFault, Sink};
 
 /// How many bytes are gathered before they are written.
@@ -131,53 +130,13 @@ pub fn push_question(
     }
 }
 
-/// The character of a level.
-fn level_character(level: Level) -> char
-    ensures { encode_utf8 result ≡ level_byte level ∷ [] }
-{
-    match level {
-        Level::Zero => '0',
-        Level::One => '1',
-        Level::X => '.',
-    }
-}
-
-/// Puts the form of a condition at the end.
-fn push_form(text: &mut String, form: Form) -> Result<(), AllocError>
-    ensures { OnOk result (string_bytes text.new ≡ string_bytes text.old ++ form_text form) }
-{
-    match form {
-        Form::Levels(first, second) => {
-            text.push(level_character(first))?;
-            text.push(level_character(second))
-        }
-        Form::Equal => text.push_str("=="),
-    }
-}
-
-/// Puts a space and a condition at the end.
-fn push_condition(text: &mut String, condition: NamedCondition) -> Result<(), AllocError>
-    ensures { OnOk result (string_bytes text.new ≡ string_bytes text.old ++ behind_condition condition) }
-{
-    let net = condition.net;
-    write!(text, " {net} ")?;
-    push_form(text, condition.form)
-}
-
 /// Puts the line `keep` at the end.
 pub fn push_keep(text: &mut String, keep: &[NamedCondition]) -> Result<(), AllocError>
     ensures { OnOk result (string_bytes text.new ≡ string_bytes text.old ++ ended (codes "keep " ++ conditions keep.now)) }
 {
-    text.push_str("keep")?;
-    if keep.is_empty() {
-        text.push_str(" none\n")?;
-        return Ok(());
-    }
-    for condition in keep {
-        push_condition(text, *condition)?;
-    }
-    text.push_str("\n")?;
-    Ok(())
+    text.push_str("keep ")?;
+    push_conditions(text, keep)?;
+    text.push_str("\n")
 }
 
 /// Puts the line `output` at the end.

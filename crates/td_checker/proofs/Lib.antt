@@ -7,4 +7,3 @@ pub mod Reported
 pub mod Questions
 pub mod Texts
 pub mod Written
-pub mod PairCubes

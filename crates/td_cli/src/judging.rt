@@ -11,8 +11,8 @@ use std::sync::Wait;
 use std::thread;
 use std::thread::Threads;
 use std::time::Clock;
-use td_answer::{Outcome, Refusal, Texts, answer};
-use td_pool::{Watch, take_back};
+use td_answer::{Outcome, Refusal, TableWatch, Texts, answer};
+use td_pool::take_back;
 use td_request::{Command, Request};
 use td_stop::{Stop, Timer};
 use td_text::Sink;
@@ -59,7 +59,7 @@ impl<'r, 'n, 'c, 'w> Case<'r, 'n, 'c, 'w> {
     ghost use Rattle.td_cli.specs.Judging.{IsAnswered};
 
     /// The outcome, of a search that ends once the stop is set.
-    fn answered<W: Watch, R: Threads + Wait + Sync>(
+    fn answered<W: TableWatch, R: Threads + Wait + Sync>(
         self,
         rt: &R,
         alloc: Global,
@@ -72,7 +72,7 @@ impl<'r, 'n, 'c, 'w> Case<'r, 'n, 'c, 'w> {
     }
 
     /// The outcome, by a deadline where there is one. The watch comes back.
-    fn judged<W: Watch, R: Threads + Wait + Clock + Sync, A: Advice + Sync>(
+    fn judged<W: TableWatch, R: Threads + Wait + Clock + Sync, A: Advice + Sync>(
         self,
         rt: &R,
         alloc: Global,
@@ -93,7 +93,7 @@ impl<'r, 'n, 'c, 'w> Case<'r, 'n, 'c, 'w> {
     }
 
     /// The outcome, beside a thread that runs a timer. The watch comes back.
-    fn judged_by<W: Watch, R: Threads + Wait + Clock + Sync, A: Advice + Sync>(
+    fn judged_by<W: TableWatch, R: Threads + Wait + Clock + Sync, A: Advice + Sync>(
         self,
         rt: &R,
         alloc: Global,

@@ -3,6 +3,7 @@
 use crate::message::tell;
 use std::alloc::{AllocError, Global};
 use std::time::{Clock, Instant};
+use td_answer::{Begun, TableWatch};
 use td_lines::Text;
 use td_pool::{Progress, Watch};
 use td_search::Problem;
@@ -37,6 +38,13 @@ impl<'a, R: Clock, E: Sink> ProgressLines<'a, R, E> {
             err,
         }
     }
+
+    /// Writes a line, if there is one.
+    fn say(&mut self, line: Result<Text, AllocError>) {
+        if let Ok(line) = line {
+            tell(self.err, line.bytes());
+        }
+    }
 }
 
 /// A clock's time, if it can be read.
@@ -61,6 +69,25 @@ fn line_of(alloc: Global, progress: Progress, seconds: Option<u64>) -> Result<Te
     push_pace(&mut text, progress.nodes, seconds)?;
     text.push(b"\n")?;
     Ok(text)
+}
+
+/// The line that says which row of a table is begun.
+fn row_line(alloc: Global, row: Begun<'_>, seconds: Option<u64>) -> Result<Text, AllocError> {
+    let mut text = Text::new(alloc);
+    text.number_behind(b"rows ", row.done)?;
+    text.number_behind(b" of ", row.rows)?;
+    text.word_behind(b" output ", row.output)?;
+    push_seconds(&mut text, seconds)?;
+    text.push(b"\n")?;
+    Ok(text)
+}
+
+/// Appends how many seconds have passed, if they are known.
+fn push_seconds(text: &mut Text, seconds: Option<u64>) -> Result<(), AllocError> {
+    match seconds {
+        Some(seconds) => text.number_behind(b" seconds ", seconds),
+        None => Ok(()),
+    }
 }
 
 /// Appends how far a search has come.
@@ -108,10 +135,7 @@ impl<'a, R: Clock, E: Sink> Watch for ProgressLines<'a, R, E> {
         }
         let seconds = seconds_since(self.clock, self.began);
         self.last = now(self.clock);
-        let Ok(line) = line_of(self.alloc, progress, seconds) else {
-            return;
-        };
-        tell(self.err, line.bytes());
+        self.say(line_of(self.alloc, progress, seconds));
     }
 
     ghost reported_nothing = { λ _ _. tt };
@@ -119,4 +143,14 @@ impl<'a, R: Clock, E: Sink> Watch for ProgressLines<'a, R, E> {
     ghost reported_both = { λ _ _ _ _ _ _. tt };
 
     ghost reported_alike = { λ _ _ _ _ _. tt };
+}
+
+impl<'a, R: Clock, E: Sink> TableWatch for ProgressLines<'a, R, E> {
+    fn begun(&mut self, row: Begun<'_>) {
+        if !self.is_asked {
+            return;
+        }
+        let seconds = seconds_since(self.clock, self.began);
+        self.say(row_line(self.alloc, row, seconds));
+    }
 }

@@ -33,6 +33,7 @@ pub const ALONE: Shown = Shown {
     path: false,
     outputs: false,
     progress: false,
+    work: false,
 };
 
 /// A certificate about the pairs in which the first input rises and the second one stays.
@@ -58,6 +59,7 @@ const BESIDE: Shown = Shown {
     path: true,
     outputs: true,
     progress: false,
+    work: false,
 };
 
 /// Conditions on the first input, which contradict each other.

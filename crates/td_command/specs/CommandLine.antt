@@ -153,7 +153,7 @@ table_rules = flag (codes "each") ∷ flag (codes "changes") ∷ flag (codes "fi
 abbrev pub worst_command : Listed → App
 worst_command strategies =
     command_of (codes "worst") (needed (codes "FILE") ∷ admitted_rules ++ option (codes "at") ∷ search_rules strategies
-    ++ option (codes "vcd") ∷ flag (codes "path") ∷ flag (codes "progress") ∷ flag (codes "outputs") ∷ outputs_rule ∷ table_rules)
+    ++ option (codes "vcd") ∷ flag (codes "path") ∷ flag (codes "progress") ∷ flag (codes "verbose") ∷ flag (codes "outputs") ∷ outputs_rule ∷ table_rules)
 
 abbrev pub parts_command : Listed → App
 parts_command strategies =

@@ -59,10 +59,16 @@ pub record SaysEffort (rows : List Row) (said : Effort) : Type 0 where
   pub budget : HasNumber (codes "budget") rows said.budget
   pub seconds : HasCount (codes "seconds") rows said.seconds
 
+-- with JSON, it is asked for always
+abbrev pub SaysWork : List Row → Bool → Type 0
+SaysWork rows said =
+    (verbose json : Bool) × HasFlag (codes "verbose") rows verbose × HasFlag (codes "json") rows json × (said ≡ (verbose || json))
+
 pub record SaysShown (rows : List Row) (said : Shown) : Type 0 where
   pub path : HasFlag (codes "path") rows said.path
   pub outputs : HasFlag (codes "outputs") rows said.outputs
   pub progress : HasFlag (codes "progress") rows said.progress
+  pub work : SaysWork rows said.work
 
 pub record SaysSim (rows : List Row) (named : List Taken) (said : Sim) : Type 0 where
   pub from : IsGiven (codes "FROM") rows said.from

@@ -84,10 +84,13 @@ fn shown(matches: &ArgMatches<'_>) -> Option<Shown>
     let path = flag_given(matches, "path")?;
     let outputs = flag_given(matches, "outputs")?;
     let progress = flag_given(matches, "progress")?;
+    let verbose = flag_given(matches, "verbose")?;
+    let json = flag_given(matches, "json")?;
     Some(Shown {
         path,
         outputs,
         progress,
+        work: verbose || json,
     })
 }
 

@@ -206,10 +206,10 @@ pair changes one",
         )
     }
 
-    /// Whether the chain of the given pair is asked for, how far the search is, and which output
-    /// changes last, as flags.
+    /// Whether the chain of the given pair is asked for, how far the search is, what it took, and
+    /// which output changes last, as flags.
     pub(crate) fn reported(&mut self) -> Result<(), AllocError>
-        ensures { OnOk result (TellsRules (flag (codes "path") ∷ flag (codes "progress") ∷ flag (codes "outputs") ∷ []) self.old self.new) }
+        ensures { OnOk result (TellsRules (flag (codes "path") ∷ flag (codes "progress") ∷ flag (codes "verbose") ∷ flag (codes "outputs") ∷ []) self.old self.new) }
     {
         self.flag(
             "path",
@@ -219,7 +219,13 @@ given pair, as `path` prints them",
         self.flag(
             "progress",
             "Writes to standard error how far the search is, each time that the\n\
-nodes handled pass 1, 2, 5, 10, 20, .. thousand, and every ten seconds",
+nodes handled pass 1, 2, 5, 10, 20, .. thousand, and every ten seconds;\n\
+with --each, each output as it is begun",
+        )?;
+        self.flag(
+            "verbose",
+            "After the nodes, how many units of work searches by spans took; always\n\
+with --json",
         )?;
         self.outputs(LATEST_HELP)
     }

@@ -15,3 +15,4 @@ pub mod Cones
 pub mod Undoing
 pub mod Redoing
 pub mod Sheets
+pub mod PairCubes

@@ -1,10 +1,13 @@
 //! Admitted pairs.
 
 ghost use Rattle.std.specs.Prelude.{◌≡◌, ◌<◌, ◌≤◌, ◌*◌, ◌^◌, ◌↔◌, length, IfOk, IfSome, IsTrue};
-ghost use Rattle.td_domain.specs.Admits.{all_pairs, HasAdmitted};
+ghost use Rattle.td_domain.specs.Admits.{all_pairs, HasAdmitted, IsAdmitted};
 ghost use Rattle.td_domain.specs.FewestFlips.{common, input_flips, common_flips, fewest_flips};
+ghost use Rattle.td_domain.specs.PairCubes.{cube_of};
+ghost use Rattle.td_domain.specs.Sheets.{known};
 
 use crate::cubes::{Cube, Trit};
+use crate::pairs::Pair;
 use std::alloc::{AllocError, Global};
 use std::marker::Model;
 
@@ -95,6 +98,40 @@ impl Admit {
             None => false,
         }
     }
+
+    /// Whether a pair is admitted, which has a bit in each vector for each input. The error is out
+    /// of memory.
+    #[tactic(auto, using(crate::proofs::PairCubes::long_cube, crate::proofs::PairCubes::alone))]
+    pub fn admits(&self, alloc: Global, pair: &Pair) -> Result<bool, AllocError>
+        requires first { length pair.now.first ≡ length self.now.held }
+        requires second { length pair.now.second ≡ length self.now.held }
+        ensures { IfOk result (λ is. IsTrue is ↔ IsAdmitted self.now pair.now) }
+    {
+        // For the prover: this call says that there are two pins for each input.
+        let _pins = self.pins();
+        let cube = cube_of(alloc, pair)?;
+        Ok(self.any(&cube))
+    }
+}
+
+/// The trit that allows this bit alone.
+fn trit_of(bit: bool) -> Trit
+    ensures { result ≡ known bit }
+{
+    if bit { Trit::One } else { Trit::Zero }
+}
+
+/// The cube in which the pair lies alone.
+fn cube_of(alloc: Global, pair: &Pair) -> Result<Cube, AllocError>
+    requires { length pair.now.first ≡ length pair.now.second }
+    ensures { IfOk result (λ cube. cube ≡ cube_of pair.now.first pair.now.second) }
+{
+    let mut trits = Vec::new(alloc);
+    for (input, before) in pair.first().iter().enumerate() {
+        trits.push(trit_of(*before))?;
+        trits.push(trit_of(pair.second()[input]))?;
+    }
+    Ok(Cube::new(trits))
 }
 
 /// The fewest flips of a pair that lies in both cubes and keeps the held inputs.

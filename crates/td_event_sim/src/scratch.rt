@@ -1,18 +1,21 @@
 //! The delay of a pair of vectors.
 
-ghost use Rattle.std.specs.Prelude.{◌≡◌, ℕ, length, IfOk};
+ghost use Rattle.std.specs.Prelude.{◌≡◌, ℕ, length, IfOk, IfErr};
 ghost use Rattle.td_circuit.specs.Numbering.{setting};
 ghost use Rattle.td_circuit.specs.Run.{IsDelayOfBits};
 ghost use Rattle.td_event_sim.specs.Cached.{IsTheDelay};
 ghost use Rattle.td_event_sim.specs.Scratch.{IsFor};
+ghost use Rattle.td_event_sim.specs.Stopping.{StopNeedsStop};
 
 use crate::cache::{Cache, place_of};
+use crate::interruption::Interruption;
 use crate::readers::readers;
 use crate::state::{State, Worklists};
 use std::alloc::{AllocError, Global};
 use std::marker::Model;
 use td_circuit::Circuit;
 use td_domain::Pair;
+use td_stop::Stop;
 
 /// Room for the simulation of a circuit with the moments of its inputs, used again for each pair.
 #[derive(Drop)]
@@ -76,24 +79,54 @@ pub fn delay_of(scratch: &mut Scratch, circuit: &Circuit, pair: &Pair) -> Result
     ensures only { IfOk result (λ delay. (other : ℕ) → IsDelayOfBits (setting circuit.now) pair.now.first pair.now.second other → other ≡ delay) }
     ensures scratch { IsFor circuit.now scratch.new }
 {
+    match delay_until(scratch, circuit, pair, &Stop::never()) {
+        Ok(delay) => Ok(delay),
+        Err(Interruption::OutOfMemory) => Err(AllocError),
+        Err(Interruption::Stopped) => unreachable!(),
+    }
+}
+
+/// As `delay_of`, unless the stop is set meanwhile. A simulation looks at the stop after each two
+/// million steps or so: the event of a net is one, and so is each gate that reads it. One of fewer
+/// steps ends with its delay, whatever the stop says. After an error the scratch may be used again.
+pub fn delay_until(
+    scratch: &mut Scratch,
+    circuit: &Circuit,
+    pair: &Pair,
+    stop: &Stop,
+) -> Result<u64, Interruption>
+    requires scratch { IsFor circuit.now scratch.old }
+    requires first_fits { length pair.now.first ≡ length circuit.now.netlist.inputs }
+    requires second_fits { length pair.now.second ≡ length circuit.now.netlist.inputs }
+    ensures delay { IfOk result (IsDelayOfBits (setting circuit.now) pair.now.first pair.now.second) }
+    ensures only { IfOk result (λ delay. (other : ℕ) → IsDelayOfBits (setting circuit.now) pair.now.first pair.now.second other → other ≡ delay) }
+    ensures stopped { IfErr result (StopNeedsStop stop.now.can_be_set) }
+    ensures scratch { IsFor circuit.now scratch.new }
+{
     let place = place_of(pair);
     if let Some(delay) = scratch.cache.find(place, pair) {
         return Ok(delay);
     }
-    let delay = simulated(scratch, circuit, pair)?;
+    let delay = simulated(scratch, circuit, pair, stop)?;
     scratch.cache.put(place, pair, delay);
     Ok(delay)
 }
 
-/// The delay of a pair that is simulated. The error is that of `delay_of`.
-fn simulated(scratch: &mut Scratch, circuit: &Circuit, pair: &Pair) -> Result<u64, AllocError>
+/// The delay of a pair that is simulated. The error is that of `delay_until`.
+fn simulated(
+    scratch: &mut Scratch,
+    circuit: &Circuit,
+    pair: &Pair,
+    stop: &Stop,
+) -> Result<u64, Interruption>
     requires scratch { IsFor circuit.now scratch.old }
     requires first_fits { length pair.now.first ≡ length circuit.now.netlist.inputs }
     requires second_fits { length pair.now.second ≡ length circuit.now.netlist.inputs }
     ensures delay { IfOk result (IsTheDelay circuit.now pair.now.first pair.now.second) }
+    ensures stopped { IfErr result (StopNeedsStop stop.now.can_be_set) }
     ensures scratch { IsFor circuit.now scratch.new }
 {
     scratch
         .state
-        .simulate(&mut scratch.lists, &scratch.readers, circuit, pair)
+        .simulate(&mut scratch.lists, &scratch.readers, circuit, pair, stop)
 }

@@ -1,7 +1,7 @@
 //! The simulation of a pair: events take place moment by moment, and after each the gates whose
 //! target may have turned are evaluated.
 
-ghost use Rattle.std.specs.Prelude.{◌≡◌, ℕ, ◌+◌, ◌-◌, ◌^◌, ◌<◌, ◌≤◌, List, length, map, slice_index, OnOk, IfOk};
+ghost use Rattle.std.specs.Prelude.{◌≡◌, true, ℕ, ◌+◌, ◌-◌, ◌^◌, ◌<◌, ◌≤◌, List, length, map, slice_index, OnOk, IfOk, IfErr};
 ghost use Rattle.std.specs.List.{All};
 ghost use Rattle.td_gates.specs.Wave.{Wave};
 ghost use Rattle.td_gates.specs.Schedule.{GateState};
@@ -18,13 +18,17 @@ ghost use Rattle.td_event_sim.specs.Reached.{HasReached};
 ghost use Rattle.td_event_sim.specs.Rules.{AreReported, ones_of, rules_of};
 ghost use Rattle.td_event_sim.specs.Scratch.{AreNets, AreReadersOf};
 ghost use Rattle.td_event_sim.specs.State.{IsRunBy, IsStateBefore};
+ghost use Rattle.td_event_sim.specs.Stopping.{StopNeedsStop};
 
 use crate::earliest::NEVER;
 use crate::events::Events;
+use crate::interruption::Interruption;
 use crate::logic::{Logic, settle};
+use crate::looks::is_stopped;
 use std::alloc::{AllocError, Global};
 use td_circuit::Circuit;
 use td_domain::Pair;
+use td_stop::Stop;
 
 /// What a simulation has come to.
 #[derive(Drop)]
@@ -213,19 +217,21 @@ impl State {
         Ok(())
     }
 
-    /// The delay of a pair.
+    /// The delay of a pair, unless the stop is set before a long simulation has come to its end.
     pub fn simulate(
         &mut self,
         lists: &mut Worklists,
         readers: &[Vec<u32>],
         circuit: &Circuit,
         pair: &Pair,
-    ) -> Result<u64, AllocError>
+        stop: &Stop,
+    ) -> Result<u64, Interruption>
         requires first_fits { length pair.now.first ≡ length circuit.now.netlist.inputs }
         requires second_fits { length pair.now.second ≡ length circuit.now.netlist.inputs }
         requires fits { FitsCircuit circuit.now self.old }
         requires readers { AreReadersOf (first_output_of circuit.now) (length (nets circuit.now)) circuit.now.gates (map (λ outputs. outputs.items) readers.now) }
         ensures delay { IfOk result (IsTheDelay circuit.now pair.now.first pair.now.second) }
+        ensures stopped { IfErr result (StopNeedsStop stop.now.can_be_set) }
         ensures fits { FitsCircuit circuit.now self.new }
     {
         // For the prover: these calls say that the gates are in order, and that each input has a
@@ -234,8 +240,12 @@ impl State {
         let _moments = circuit.moments();
         self.start(circuit, pair)?;
         let mut moment = self.events.queue.first();
+        let mut steps = 0u64;
         while moment < NEVER {
             self.advance(lists, readers, circuit, moment)?;
+            if is_stopped(stop, &mut steps, readers, &lists.taken) {
+                return Err(Interruption::Stopped);
+            }
             moment = self.events.queue.first_from(moment + 1);
         }
         Ok(greatest(&self.latest, circuit.outputs()))

@@ -113,6 +113,7 @@ abbrev pub cause_line : Cause → List ℕ
 cause_line cause.Budget = codes "cause budget" ++ newline
 cause_line cause.Memory = codes "cause memory" ++ newline
 cause_line cause.Time = codes "cause time" ++ newline
+cause_line cause.Effort = codes "cause effort" ++ newline
 cause_line cause.Stop = codes "cause stop" ++ newline
 cause_line cause.Required = codes "cause required" ++ newline
 
@@ -254,6 +255,7 @@ line_text (line.Cause why) = cause_line why
 line_text (line.From vector) = vector_line (codes "from ") vector
 line_text (line.To vector) = vector_line (codes "to ") vector
 line_text (line.Nodes count) = number_line (codes "nodes ") count
+line_text (line.Units count) = number_line (codes "units ") count
 line_text (line.Required moment standing) = required_line moment standing
 line_text (line.Each rows) = flat_map row_line rows.items
 line_text (line.Hazards rows) = flat_map hazard_line rows.items

@@ -54,6 +54,7 @@ abbrev pub cause_text : Cause → List ℕ
 cause_text cause.Budget = codes "budget"
 cause_text cause.Memory = codes "memory"
 cause_text cause.Time = codes "time"
+cause_text cause.Effort = codes "effort"
 cause_text cause.Stop = codes "stop"
 cause_text cause.Required = codes "required"
 
@@ -202,6 +203,7 @@ key_of (line.Cause why) = codes "cause"
 key_of (line.From vector) = codes "from"
 key_of (line.To vector) = codes "to"
 key_of (line.Nodes count) = codes "nodes"
+key_of (line.Units count) = codes "units"
 key_of (line.Required moment standing) = codes "required"
 key_of (line.Each rows) = codes "each"
 key_of (line.Hazards rows) = codes "hazard"
@@ -246,6 +248,7 @@ value_of (line.Cause why) = string (cause_text why)
 value_of (line.From vector) = string (bits vector)
 value_of (line.To vector) = string (bits vector)
 value_of (line.Nodes count) = number (decimal count)
+value_of (line.Units count) = number (decimal count)
 value_of (line.Required moment standing) = required_value moment standing
 value_of (line.Each rows) = array (items_by row_value rows.items)
 value_of (line.Hazards rows) = array (items_by hazard_row_value rows.items)

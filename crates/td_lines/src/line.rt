@@ -12,6 +12,8 @@ pub enum Cause {
     Budget,
     Memory,
     Time,
+    /// There was nothing more to try, and the budget isn't used up.
+    Effort,
     /// Somebody asked for the search's end.
     Stop,
     /// What was asked of a required moment is answered.
@@ -190,6 +192,8 @@ pub enum Line {
     To(Vector),
     /// How many nodes were handled.
     Nodes(u64),
+    /// How many units of work searches by spans took.
+    Units(u64),
     /// Whether outputs settle by this moment.
     Required(u64, Standing),
     /// What is found of each output alone.

@@ -127,6 +127,7 @@ fn member(alloc: Global, writer: &mut Writer, line: &Line) -> Result<(), AllocEr
         Line::From(bits) => vector(alloc, writer, "from", bits),
         Line::To(bits) => vector(alloc, writer, "to", bits),
         Line::Nodes(count) => count_of(writer, "nodes", *count),
+        Line::Units(count) => count_of(writer, "units", *count),
         Line::Required(moment, standing) => required(writer, *moment, *standing),
         Line::Each(rows) => lists(alloc, writer, "each", rows),
         Line::Hazards(rows) => lists(alloc, writer, "hazard", rows),
@@ -272,6 +273,7 @@ fn cause_word(why: Cause) -> &'static str
         Cause::Budget => "budget",
         Cause::Memory => "memory",
         Cause::Time => "time",
+        Cause::Effort => "effort",
         Cause::Stop => "stop",
         Cause::Required => "required",
     }

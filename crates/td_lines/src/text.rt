@@ -68,6 +68,7 @@ impl Printed for Line {
             Line::From(bits) => vector(out, b"from ", bits),
             Line::To(bits) => vector(out, b"to ", bits),
             Line::Nodes(count) => number(out, b"nodes ", *count),
+            Line::Units(count) => number(out, b"units ", *count),
             Line::Required(moment, standing) => required(out, *moment, *standing),
             Line::Each(rows) => all(out, rows),
             Line::Hazards(rows) => all(out, rows),
@@ -296,6 +297,7 @@ fn cause(out: &mut Text, why: Cause) -> Result<(), AllocError>
         Cause::Budget => out.push(b"cause budget\n"),
         Cause::Memory => out.push(b"cause memory\n"),
         Cause::Time => out.push(b"cause time\n"),
+        Cause::Effort => out.push(b"cause effort\n"),
         Cause::Stop => out.push(b"cause stop\n"),
         Cause::Required => out.push(b"cause required\n"),
     }

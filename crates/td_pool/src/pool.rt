@@ -37,6 +37,7 @@ use std::thread;
 use std::thread::{Promise, PromisedHandle, Threads};
 use td_circuit::Circuit;
 use td_domain::Admit;
+use td_event_sim::Interruption;
 use td_search::{
     Answer, Best, Ended, Evidence, Lead, Least, Own, Prober, Problem, Root, Rule, SearchFault,
     SharedWork, Strategy, Task, alone_shown, finish_shown, root_of,
@@ -193,12 +194,16 @@ fn search_by<P: Prober + Sync, D: Hints + Drop + Send, W: Watch, R: Threads + Wa
     if !problem.admit.any(problem.admit.pins()) {
         return Err(SearchFault::NoPair);
     }
-    let work = shared_work(rt, alloc, problem, prober, decks, limits, watch)?;
     let Limits { effort, stop } = limits;
-    Ok(finish_shown(alloc, problem, work, effort.budget, stop))
+    match shared_work(rt, alloc, problem, prober, decks, limits, watch) {
+        Ok(work) => Ok(finish_shown(alloc, problem, work, effort.budget, stop)),
+        // No pair was measured yet, and one thread answers what is known.
+        Err(Interruption::Stopped) => alone_shown(alloc, problem, effort.budget, stop),
+        Err(Interruption::OutOfMemory) => Err(SearchFault::OutOfMemory),
+    }
 }
 
-// What the workers find by the rule of the strategy. The error is out of memory before they begin.
+// What the workers find by the rule of the strategy. The error comes before they begin.
 fn shared_work<P: Prober + Sync, D: Hints + Drop + Send, W: Watch, R: Threads + Wait + Sync>(
     rt: &R,
     alloc: Global,
@@ -207,7 +212,7 @@ fn shared_work<P: Prober + Sync, D: Hints + Drop + Send, W: Watch, R: Threads + 
     decks: Vec<D>,
     limits: Limits<'_>,
     watch: &mut W,
-) -> Result<SharedWork, AllocError>
+) -> Result<SharedWork, Interruption>
     requires any { HasAdmitted problem.now.admit.now problem.now.admit.now.pins }
     ensures work { IfOk result (IsShared (problem_of problem.now)) }
     ensures reported { W.reported (problem_of problem.now) watch.old watch.new }
@@ -236,26 +241,26 @@ fn shared_work<P: Prober + Sync, D: Hints + Drop + Send, W: Watch, R: Threads + 
     }
 }
 
-// What the workers find by one rule. This thread is one of them. The error is out of memory before
-// they begin.
+// What the workers find by one rule. This thread is one of them. The error comes before they begin.
 fn search_with<Q: Rule + Sync, D: Hints + Drop + Send, W: Watch, R: Threads + Wait + Sync>(
     rt: &R,
     task: &Task<'_, Q>,
     decks: Vec<D>,
     effort: Effort,
     watch: &mut W,
-) -> Result<SharedWork, AllocError>
+) -> Result<SharedWork, Interruption>
     requires any { HasAdmitted task.now.problem.now.admit.now task.now.problem.now.admit.now.pins }
     ensures work { IfOk result (IsShared (problem_of task.now.problem.now)) }
     ensures reported { W.reported (problem_of task.now.problem.now) watch.old watch.new }
 {
     let root = first_root(task)?;
     let blank = Blank::new(u64::from(effort.workers));
-    search_all::<Brand, _, _, _, _>(rt, task, decks, effort, root, blank, watch)
+    let work = search_all::<Brand, _, _, _, _>(rt, task, decks, effort, root, blank, watch)?;
+    Ok(work)
 }
 
-// What is known of the pins. The error is out of memory.
-fn first_root<Q: Rule>(task: &Task<'_, Q>) -> Result<Root, AllocError>
+// What is known of the pins.
+fn first_root<Q: Rule>(task: &Task<'_, Q>) -> Result<Root, Interruption>
     requires any { HasAdmitted task.now.problem.now.admit.now task.now.problem.now.admit.now.pins }
     ensures { IfOk result (IsRoot (problem_of task.now.problem.now)) }
 {

@@ -32,6 +32,26 @@ pub const WIDE: &str = "module t (e, f, g, a, b, y); input e, f, g, a, b; output
 pub const SLOW_ARM: &str =
     "module t (a, b, y); input a, b; output y; buf #4 s(t,a); or #1 g(y,b,t); endmodule";
 
+/// The text of a netlist whose changes double from level to level: each level is an xor of the level
+/// before and a delayed copy of it, whose delays halve.
+pub fn doubling_text(alloc: Global, levels: u32) -> Result<String, AllocError> {
+    let mut delay = 1u64;
+    for _ in 0..levels {
+        delay = delay.saturating_mul(2);
+    }
+    let mut gates = String::new(alloc);
+    for level in 0..levels {
+        let next = level.saturating_add(1);
+        gates.push_str(&format!(in alloc;
+            "buf #{delay} (c{level},x{level}); xor #1 (x{next},x{level},c{level});\n"
+        )?)?;
+        delay /= 2;
+    }
+    Ok(format!(in alloc;
+        "module t (x0, x{levels}); input x0; output x{levels};\n{gates}endmodule"
+    )?)
+}
+
 /// A circuit, and all its pairs.
 #[derive(Drop)]
 pub struct Asked {

@@ -3,7 +3,7 @@
 ghost use Rattle.std.specs.Prelude.{◌≡◌, ◌<◌, ◌≤◌};
 ghost use Rattle.td_search.specs.Sheeted.{IsScratch};
 
-use crate::circuits::{WIDE, asked_of};
+use crate::circuits::{WIDE, asked_of, doubling_text};
 use std::alloc::{AllocError, Global};
 use std::process::Abort;
 use std::sync::Wait;
@@ -16,8 +16,13 @@ use td_pool::{Effort, Limits, Unwatched, search};
 use td_search::{Answer, Cause, Own, Probe, Prober, Problem, Strategy};
 use td_stop::Stop;
 
-/// The worst delay of the circuit that is searched.
+/// The worst delay of the circuit that most tests search.
 const WORST: u64 = 3;
+
+/// The levels of a circuit whose simulation takes millions of events, and its worst delay.
+const LEVELS: u32 = 27;
+
+const LATE: u64 = 268_435_481;
 
 /// Passes all on, and sets a stop at the bound with this number.
 #[derive(Drop)]
@@ -64,6 +69,50 @@ impl<'a> Prober for Stopping<'a> {
     }
 }
 
+/// What lets these workers handle a million nodes, unless the stop is set.
+fn limits_of(workers: u32, stop: &Stop) -> Limits<'_>
+    requires some { 0 < workers }
+    requires few { workers ≤ 64 }
+{
+    let budget = 1_000_000;
+    Limits {
+        effort: Effort { workers, budget },
+        stop,
+    }
+}
+
+/// The lower figure of a search that its stop ended, and how many nodes it handled, where a delay
+/// lies between its figures; none where it ended otherwise.
+fn ended_by_stop<P: Prober + Sync, R: Threads + Wait + Sync + Abort>(
+    rt: &R,
+    alloc: Global,
+    text: &str,
+    strategy: Strategy,
+    prober: &P,
+    limits: Limits<'_>,
+    worst: u64,
+) -> Result<Option<(u64, u64)>, Fail> {
+    let asked = asked_of(rt, alloc, text)?;
+    let problem = Problem {
+        circuit: &asked.circuit,
+        admit: &asked.admit,
+        strategy,
+    };
+    let Ok(ended) = search(rt, alloc, &problem, prober, limits, &mut Unwatched) else {
+        return Err(Fail::from("no answer"));
+    };
+    match ended.answer {
+        Answer::Between {
+            low,
+            high,
+            nodes,
+            cause: Cause::Time,
+            ..
+        } if low <= worst && worst <= high => Ok(Some((low, nodes))),
+        _ => Ok(None),
+    }
+}
+
 /// How many nodes a search handled that its stop ended, with the worst delay between its figures;
 /// none where it ended otherwise.
 fn stopped_after<P: Prober + Sync, R: Threads + Wait + Sync + Abort>(
@@ -77,31 +126,10 @@ fn stopped_after<P: Prober + Sync, R: Threads + Wait + Sync + Abort>(
     requires some { 0 < workers }
     requires few { workers ≤ 64 }
 {
-    let asked = asked_of(rt, alloc, WIDE)?;
-    let problem = Problem {
-        circuit: &asked.circuit,
-        admit: &asked.admit,
-        strategy,
-    };
-    let limits = Limits {
-        effort: Effort {
-            workers,
-            budget: 1_000_000,
-        },
-        stop,
-    };
-    let Ok(ended) = search(rt, alloc, &problem, prober, limits, &mut Unwatched) else {
-        return Err(Fail::from("no answer"));
-    };
-    match ended.answer {
-        Answer::Between {
-            low,
-            high,
-            nodes,
-            cause: Cause::Time,
-            ..
-        } if low <= WORST && WORST <= high => Ok(Some(nodes)),
-        _ => Ok(None),
+    let limits = limits_of(workers, stop);
+    match ended_by_stop(rt, alloc, WIDE, strategy, prober, limits, WORST)? {
+        Some((_, nodes)) => Ok(Some(nodes)),
+        None => Ok(None),
     }
 }
 
@@ -143,6 +171,23 @@ fn not_stopped(rt: HostRuntime) -> Result<(), Fail> {
         let stop = Stop::new();
         let nodes = stopped_after(&rt, rt.alloc(), Strategy::Least, &Own, workers, &stop)?;
         assert_eq!(&rt; nodes, None, "{workers} workers");
+    }
+    Ok(())
+}
+
+/// Where the stop is set before the pair that stands for the pins is measured, a pair that stays
+/// takes its place: the search answers a delay of 0 and a bound.
+#[test]
+fn stopped_in_a_simulation(rt: HostRuntime) -> Result<(), Fail> {
+    let stop = Stop::new();
+    stop.set();
+    let text = doubling_text(rt.alloc(), LEVELS)?;
+    for strategy in [Strategy::Least, Strategy::Lead] {
+        for workers in [1, 4] {
+            let limits = limits_of(workers, &stop);
+            let found = ended_by_stop(&rt, rt.alloc(), &text, strategy, &Own, limits, LATE)?;
+            assert_eq!(&rt; found, Some((0, 0)), "{workers} workers");
+        }
     }
     Ok(())
 }

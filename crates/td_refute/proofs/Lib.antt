@@ -1,3 +1,2 @@
 mod Worst
-mod PairCubes
 mod Among

@@ -13,10 +13,11 @@ use std::alloc::{AllocError, Global};
 use std::thread::Threads;
 use td_circuit::Circuit;
 use td_domain::{Admit, Pair};
-use td_event_sim::{Scratch, delay_of};
+use td_event_sim::{Interruption, Scratch, delay_until};
 use td_lead::Timed;
 use td_refutation::{NamedCondition, Refusal, Step, refuted_keeping};
 use td_span_search::{Ending, PairBits};
+use td_stop::Stop;
 
 /// What lines show of the pairs that are asked about.
 #[derive(Drop)]
@@ -29,13 +30,14 @@ pub enum Evidence {
     NoPair(Vec<Step>),
 }
 
-/// What a search answers: the latest pair that it found, if it did, what was shown, and why it
-/// ended.
+/// What a search answers: the latest pair that it found, if it did, what was shown, why it ended,
+/// and how many units of work it took.
 #[derive(Drop)]
 pub struct Answered {
     pub best: Option<Timed>,
     pub evidence: Evidence,
     pub ending: Ending,
+    pub work: u64,
 }
 
 impl Answered {
@@ -48,6 +50,7 @@ impl Answered {
             best: None,
             evidence: Evidence::Nothing,
             ending,
+            work: 0,
         }
     }
 }
@@ -77,24 +80,27 @@ pub fn refute_keeping<R: Threads + Sync>(
         pair,
         steps,
         ending,
+        work,
     } = search(rt, alloc, circuit, admit, keep, 0, effort)?;
-    let best = measured(alloc, circuit, admit, keep, pair)?;
+    let best = measured(alloc, circuit, admit, keep, pair, effort.stop)?;
     let evidence = evidence_of(alloc, circuit, admit, keep, steps);
     Ok(Answered {
         best,
         evidence,
         ending,
+        work,
     })
 }
 
-// The pair that a search found, with its delay, where it is one of those asked about. The error is
-// out of memory.
+// The pair that a search found, with its delay, where it is one of those asked about; none where
+// the stop ends its long simulation. The error is out of memory.
 fn measured(
     alloc: Global,
     circuit: &Circuit,
     admit: &Admit,
     keep: &[NamedCondition],
     found: Option<PairBits>,
+    stop: &Stop,
 ) -> Result<Option<Timed>, AllocError>
     requires held { length admit.now.held ≡ length circuit.now.netlist.inputs }
     ensures { IfOk result (λ timed. IfSome timed (IsTimedAmong (setting circuit.now) (record { admit = admit.now; keep = keep.now }))) }
@@ -102,7 +108,7 @@ fn measured(
     match found {
         Some(PairBits { first, second }) => {
             if first.len() == circuit.input_count() && second.len() == circuit.input_count() {
-                measured_pair(alloc, circuit, admit, keep, Pair::new(first, second))
+                measured_pair(alloc, circuit, admit, keep, Pair::new(first, second), stop)
             } else {
                 Ok(None)
             }
@@ -118,6 +124,7 @@ fn measured_pair(
     admit: &Admit,
     keep: &[NamedCondition],
     pair: Pair,
+    stop: &Stop,
 ) -> Result<Option<Timed>, AllocError>
     requires held { length admit.now.held ≡ length circuit.now.netlist.inputs }
     requires first { length pair.first ≡ length circuit.now.netlist.inputs }
@@ -128,8 +135,11 @@ fn measured_pair(
         return Ok(None);
     }
     let mut scratch = Scratch::new(alloc, circuit)?;
-    let time = delay_of(&mut scratch, circuit, &pair)?;
-    Ok(Some(Timed { pair, time }))
+    match delay_until(&mut scratch, circuit, &pair, stop) {
+        Ok(time) => Ok(Some(Timed { pair, time })),
+        Err(Interruption::Stopped) => Ok(None),
+        Err(Interruption::OutOfMemory) => Err(AllocError),
+    }
 }
 
 // What lines show, if there are some; nothing where memory runs out.

@@ -15,10 +15,11 @@ use std::alloc::{AllocError, Global};
 use std::thread::Threads;
 use td_circuit::Circuit;
 use td_domain::{Admit, Pair};
-use td_event_sim::{Scratch, delay_of};
+use td_event_sim::{Interruption, Scratch, delay_until};
 use td_lead::Timed;
 use td_refutation::{Refusal, Step, refuted};
 use td_span_search::{Ending, PairBits};
+use td_stop::Stop;
 
 /// A bound of the delays of the admitted pairs, and the lines that show it.
 #[derive(Drop)]
@@ -27,11 +28,13 @@ pub struct Refuted {
     pub steps: Vec<Step>,
 }
 
-/// What a search answers: the least bound that was shown, if one was, and why it ended.
+/// What a search answers: the least bound that was shown, if one was, why it ended, and how many
+/// units of work it took.
 #[derive(Drop)]
 pub struct Sought {
     pub refuted: Option<Refuted>,
     pub ending: Ending,
+    pub work: u64,
 }
 
 impl Sought {
@@ -42,6 +45,7 @@ impl Sought {
         Sought {
             refuted: None,
             ending,
+            work: 0,
         }
     }
 }
@@ -81,15 +85,20 @@ pub fn refute<R: Threads + Sync>(
         pair,
         steps,
         ending,
+        work,
     } = search(rt, alloc, circuit, admit, &[], best.time, effort)?;
-    keep_found(alloc, scratch, circuit, admit, &pair, best)?;
+    keep_found(alloc, scratch, circuit, admit, &pair, best, effort.stop)?;
     let steps = steps?;
     let refuted = show(alloc, circuit, admit, best, steps)?;
-    Ok(Sought { refuted, ending })
+    Ok(Sought {
+        refuted,
+        ending,
+        work,
+    })
 }
 
-// Measures the pair that a search found, if it did, and keeps it where it is later. The error is
-// out of memory.
+// Measures the pair that a search found, if it did, and keeps it where it is later. One whose long
+// simulation the stop ends isn't kept. The error is out of memory.
 fn keep_found(
     alloc: Global,
     scratch: &mut Scratch,
@@ -97,6 +106,7 @@ fn keep_found(
     admit: &Admit,
     found: &Option<PairBits>,
     best: &mut Timed,
+    stop: &Stop,
 ) -> Result<(), AllocError>
     requires scratch { IsFor circuit.now scratch.old }
     requires held { length admit.now.held ≡ length circuit.now.netlist.inputs }
@@ -111,16 +121,17 @@ fn keep_found(
     // For the prover: this call says that there are few inputs.
     let _gates = circuit.gates();
     let pair = pair_with(alloc, admit, &best.pair, found)?;
-    keep_later(scratch, circuit, admit, pair, best)
+    keep_later(scratch, circuit, admit, pair, best, stop)
 }
 
-// Measures an admitted pair, and keeps it where it is later. The error is out of memory.
+// Measures an admitted pair, and keeps it where it is later, as `keep_found` does.
 fn keep_later(
     scratch: &mut Scratch,
     circuit: &Circuit,
     admit: &Admit,
     pair: Pair,
     best: &mut Timed,
+    stop: &Stop,
 ) -> Result<(), AllocError>
     requires scratch { IsFor circuit.now scratch.old }
     requires held { length admit.now.held ≡ length circuit.now.netlist.inputs }
@@ -131,7 +142,11 @@ fn keep_later(
     ensures scratch { IsFor circuit.now scratch.new }
 {
     let _pins = admit.pins();
-    let time = delay_of(scratch, circuit, &pair)?;
+    let time = match delay_until(scratch, circuit, &pair, stop) {
+        Ok(time) => time,
+        Err(Interruption::Stopped) => return Ok(()),
+        Err(Interruption::OutOfMemory) => return Err(AllocError),
+    };
     if time > best.time {
         *best = Timed { pair, time };
     }

@@ -16,12 +16,14 @@ use td_span_search::{
 use td_spans::{Form, first_times};
 
 /// What a search found: the latest pair, if it knows one, and lines that are to show the least
-/// bound, or that no pair is asked about, unless memory ran out; and why it ended.
+/// bound, or that no pair is asked about, unless memory ran out; why it ended, and what it took.
 #[derive(Drop)]
 pub struct Findings {
     pub pair: Option<PairBits>,
     pub steps: Result<Vec<Step>, AllocError>,
     pub ending: Ending,
+    /// The units of work that it took.
+    pub work: u64,
 }
 
 /// The most gates that lead to the outputs of a circuit that is searched.
@@ -87,6 +89,7 @@ pub fn search<R: Threads + Sync>(
             pair: None,
             steps: Ok(Vec::new(alloc)),
             ending: Ending::Lost,
+            work: 0,
         });
     }
     let mut admitted = Admitted::new(alloc, &network, admit)?;
@@ -98,6 +101,7 @@ pub fn search<R: Threads + Sync>(
     let ended = team.run(rt);
     let pair = copy_of(alloc, team.pair())?;
     let ending = team.ending().unwrap_or(Ending::Memory);
+    let work = team.spent();
     let steps = match ended {
         Ok(()) => steps_in(alloc, circuit, team),
         Err(error) => Err(error),
@@ -106,6 +110,7 @@ pub fn search<R: Threads + Sync>(
         pair,
         steps,
         ending,
+        work,
     })
 }
 

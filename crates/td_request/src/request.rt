@@ -72,6 +72,8 @@ pub struct Shown {
     pub outputs: bool,
     /// How far the search has come.
     pub progress: bool,
+    /// How many units of work the search took.
+    pub work: bool,
 }
 
 /// Which table is asked for, of each output by itself.

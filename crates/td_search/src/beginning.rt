@@ -10,10 +10,11 @@ use crate::root::Root;
 use crate::rule::Rule;
 use crate::task::Task;
 use std::alloc::AllocError;
+use td_event_sim::Interruption;
 
-/// The delay of the pair that stands for the pins, and the strongest domain's bound of them. The
-/// error is out of memory.
-pub fn root_of<R: Rule>(task: &Task<'_, R>, scratch: &mut R::Scratch) -> Result<Root, AllocError>
+/// The delay of the pair that stands for the pins, and the strongest domain's bound of them. After
+/// an error the scratch may be used again.
+pub fn root_of<R: Rule>(task: &Task<'_, R>, scratch: &mut R::Scratch) -> Result<Root, Interruption>
     requires scratch { R.is_for scratch.old task.now.problem.now.circuit.now }
     requires any { HasAdmitted task.now.problem.now.admit.now task.now.problem.now.admit.now.pins }
     ensures root { IfOk result (IsRoot (problem_of task.now.problem.now)) }
@@ -23,10 +24,10 @@ pub fn root_of<R: Rule>(task: &Task<'_, R>, scratch: &mut R::Scratch) -> Result<
         alloc,
         problem,
         rule,
-        ..
+        stop,
     } = task;
     let pins = problem.admit.pins();
-    let first = rule.measure(*alloc, problem, scratch, pins)?;
+    let first = rule.measure(*alloc, problem, scratch, pins, stop)?;
     let bound = rule.strongest(*alloc, problem, scratch, pins)?;
     Ok(Root { first, bound })
 }

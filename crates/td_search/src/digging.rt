@@ -13,9 +13,9 @@ use crate::findings::Finding;
 use crate::progress::Search;
 use crate::rule::Rule;
 use crate::task::Task;
-use std::alloc::AllocError;
 use td_book::{Claim, Lease};
 use td_domain::Cube;
+use td_event_sim::Interruption;
 
 impl Search {
     /// Handles nodes until none is left, the budget is used up, memory runs out, or the stop is
@@ -37,12 +37,12 @@ impl Search {
     }
 
     // Handles the first leaf that is open, if the book gives one, and as much below it as its lease
-    // allows. The error is out of memory.
+    // allows.
     fn handle_next<R: Rule>(
         &mut self,
         task: &Task<'_, R>,
         scratch: &mut R::Scratch,
-    ) -> Result<bool, AllocError>
+    ) -> Result<bool, Interruption>
         requires search { IsUnderWay (problem_of task.now.problem.now) self.old.book.budget self.old }
         requires scratch { R.is_for scratch.old task.now.problem.now.circuit.now }
         ensures search { IsUnderWay (problem_of task.now.problem.now) self.old.book.budget self.new }
@@ -57,13 +57,13 @@ impl Search {
     }
 
     // Splits and closes below a leaf in a private tree, and then in the book what is found to be
-    // usable there. The error is out of memory.
+    // usable there.
     fn handle<R: Rule>(
         &mut self,
         task: &Task<'_, R>,
         scratch: &mut R::Scratch,
         lease: Lease,
-    ) -> Result<(), AllocError>
+    ) -> Result<(), Interruption>
         requires search { IsUnderWay (problem_of task.now.problem.now) self.old.book.budget self.old }
         requires scratch { R.is_for scratch.old task.now.problem.now.circuit.now }
         requires within { IsWithin (problem_of task.now.problem.now) lease.cube }
@@ -78,15 +78,14 @@ impl Search {
     }
 
     // Splits and closes below a leaf, depth first, zero side first, until nothing is left there,
-    // the allowance is used up, or the stop is set. The book learns nothing of it. The error is out
-    // of memory.
+    // the allowance is used up, or the stop is set. The book learns nothing of it.
     fn work_below<R: Rule>(
         &mut self,
         task: &Task<'_, R>,
         scratch: &mut R::Scratch,
         lease: &Lease,
         below: &mut Below,
-    ) -> Result<(), AllocError>
+    ) -> Result<(), Interruption>
         requires search { IsUnderWay (problem_of task.now.problem.now) self.old.book.budget self.old }
         requires scratch { R.is_for scratch.old task.now.problem.now.circuit.now }
         requires below { IsBelow (problem_of task.now.problem.now) lease.now below.old }
@@ -112,13 +111,13 @@ impl Search {
     }
 
     /// What is found of a cube under the best, or under the delay of the pair that stands for it
-    /// where that is measured and is greater: then that is the best. The error is out of memory.
+    /// where that is measured and is greater: then that is the best.
     pub fn find<R: Rule>(
         &mut self,
         task: &Task<'_, R>,
         scratch: &mut R::Scratch,
         cube: &Cube,
-    ) -> Result<Finding, AllocError>
+    ) -> Result<Finding, Interruption>
         requires search { IsUnderWay (problem_of task.now.problem.now) self.old.book.budget self.old }
         requires scratch { R.is_for scratch.old task.now.problem.now.circuit.now }
         requires within { IsWithin (problem_of task.now.problem.now) cube.now }

@@ -11,19 +11,19 @@ use crate::keeper::Keeper;
 use crate::rule::Rule;
 use crate::step::Step;
 use crate::task::Task;
-use std::alloc::AllocError;
 use td_book::Mark;
 use td_domain::Cube;
+use td_event_sim::Interruption;
 
 /// What is found of a cube: it is closed or split as the rule says, under the cut that the keeper
-/// knows. A pair that is measured is offered to the keeper. The error is out of memory, and the
-/// scratch may be used again.
+/// knows. A pair that is measured is offered to the keeper. After an error the scratch may be used
+/// again.
 pub fn find<R: Rule, K: Keeper>(
     task: &Task<'_, R>,
     scratch: &mut R::Scratch,
     keeper: &mut K,
     cube: &Cube,
-) -> Result<Finding, AllocError>
+) -> Result<Finding, Interruption>
     requires scratch { R.is_for scratch.old task.now.problem.now.circuit.now }
     requires keeps { K.keeps (problem_of task.now.problem.now) keeper.old }
     requires within { IsWithin (problem_of task.now.problem.now) cube.now }
@@ -53,7 +53,7 @@ fn find_measured<R: Rule, K: Keeper>(
     scratch: &mut R::Scratch,
     keeper: &mut K,
     cube: &Cube,
-) -> Result<Finding, AllocError>
+) -> Result<Finding, Interruption>
     requires first { measures_first R.by ≡ true }
     requires scratch { R.is_for scratch.old task.now.problem.now.circuit.now }
     requires keeps { K.keeps (problem_of task.now.problem.now) keeper.old }
@@ -69,7 +69,7 @@ fn find_measured<R: Rule, K: Keeper>(
         alloc,
         problem,
         rule,
-        ..
+        stop,
     } = task;
     // For the prover: gates are in order and pins have two positions for each input.
     let _numbering = problem.circuit.gates();
@@ -81,7 +81,7 @@ fn find_measured<R: Rule, K: Keeper>(
             return Ok(Finding::Closed(Mark::Bound(by), bound));
         }
     }
-    let time = rule.measure(*alloc, problem, scratch, cube)?;
+    let time = rule.measure(*alloc, problem, scratch, cube, stop)?;
     keeper.offer(problem, cube, time);
     match rule.step(*alloc, problem, scratch, cube, keeper.cut())? {
         Step::Close(by, bound) => Ok(Finding::Closed(Mark::Bound(by), bound)),
@@ -96,7 +96,7 @@ fn find_bounded<R: Rule, K: Keeper>(
     scratch: &mut R::Scratch,
     keeper: &mut K,
     cube: &Cube,
-) -> Result<Finding, AllocError>
+) -> Result<Finding, Interruption>
     requires first { measures_first R.by ≡ false }
     requires scratch { R.is_for scratch.old task.now.problem.now.circuit.now }
     requires keeps { K.keeps (problem_of task.now.problem.now) keeper.old }
@@ -112,7 +112,7 @@ fn find_bounded<R: Rule, K: Keeper>(
         alloc,
         problem,
         rule,
-        ..
+        stop,
     } = task;
     // For the prover: gates are in order and pins have two positions for each input.
     let _numbering = problem.circuit.gates();
@@ -126,7 +126,7 @@ fn find_bounded<R: Rule, K: Keeper>(
             Ok(Finding::Split(position as u32, bound, delay))
         }
         Step::Measure => {
-            let time = rule.measure(*alloc, problem, scratch, cube)?;
+            let time = rule.measure(*alloc, problem, scratch, cube, stop)?;
             keeper.offer(problem, cube, time);
             Ok(Finding::Closed(Mark::Point, time))
         }

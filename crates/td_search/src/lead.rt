@@ -13,6 +13,7 @@ use crate::step::Step;
 use std::alloc::{AllocError, Global};
 use td_climb::{Climb, tries_for};
 use td_domain::{Cube, Pair};
+use td_event_sim::Interruption;
 use td_lead::Timed;
 use td_stop::Stop;
 
@@ -86,8 +87,7 @@ impl Rule for Lead {
         }
         let start = best.timed(alloc)?.pair;
         let pair = climbed(alloc, problem, start, enough, stop)?;
-        let timed = timed(&mut scratch.events, problem, pair)?;
-        Ok(Some(timed))
+        timed(&mut scratch.events, problem, pair, stop)
     }
 
     fn measure(
@@ -96,8 +96,16 @@ impl Rule for Lead {
         problem: &Problem<'_>,
         scratch: &mut Scratch,
         cube: &Cube,
-    ) -> Result<u64, AllocError> {
-        measure(alloc, &mut scratch.events, &mut scratch.pair, problem, cube)
+        stop: &Stop,
+    ) -> Result<u64, Interruption> {
+        measure(
+            alloc,
+            &mut scratch.events,
+            &mut scratch.pair,
+            problem,
+            cube,
+            stop,
+        )
     }
 
     fn strongest(

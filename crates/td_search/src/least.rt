@@ -12,6 +12,7 @@ use crate::step::Step;
 use std::alloc::{AllocError, Global};
 use std::mem;
 use td_domain::{Cube, Pair};
+use td_event_sim::Interruption;
 use td_lead::Timed;
 use td_stop::Stop;
 
@@ -75,14 +76,15 @@ impl<'a, P: Prober> Rule for Least<'a, P> {
         problem: &Problem<'_>,
         bench: &mut Bench<P::Scratch>,
         cube: &Cube,
-    ) -> Result<u64, AllocError> {
+        stop: &Stop,
+    ) -> Result<u64, Interruption> {
         // For the prover: pins have two positions for each input.
         let _pins = problem.admit.pins();
         let other = mem::replace(&mut bench.pair, no_bits(alloc));
         let pair = representative_over(cube, problem.admit, other)?;
         let time = self
             .prober
-            .measure(&mut bench.scratch, problem.circuit, &pair)?;
+            .measure_until(&mut bench.scratch, problem.circuit, &pair, stop)?;
         bench.pair = pair;
         Ok(time)
     }

@@ -11,7 +11,8 @@ use crate::scratch::Scratch;
 use std::alloc::{AllocError, Global};
 use td_circuit::Circuit;
 use td_domain::{Cube, Pair};
-use td_event_sim::delay_of;
+use td_event_sim::{Interruption, delay_of, delay_until};
+use td_stop::Stop;
 
 /// What measures pairs and bounds cubes of a circuit, for any number of workers at a time. What it
 /// answers is true of the circuit.
@@ -61,6 +62,25 @@ pub trait Prober {
         ensures delay { IfOk result (IsDelayOfBits (setting circuit.now) pair.now.first pair.now.second) }
         ensures only { IfOk result (λ delay. (other : ℕ) → IsDelayOfBits (setting circuit.now) pair.now.first pair.now.second other → other ≡ delay) }
         ensures scratch { is_for scratch.new circuit.now };
+
+    /// As `measure`, but a prober that looks at the stop may end without the delay once it is set.
+    fn measure_until(
+        &self,
+        scratch: &mut Self::Scratch,
+        circuit: &Circuit,
+        pair: &Pair,
+        _stop: &Stop,
+    ) -> Result<u64, Interruption>
+        requires scratch { is_for scratch.old circuit.now }
+        requires first_fits { length pair.now.first ≡ length circuit.now.netlist.inputs }
+        requires second_fits { length pair.now.second ≡ length circuit.now.netlist.inputs }
+        ensures delay { IfOk result (IsDelayOfBits (setting circuit.now) pair.now.first pair.now.second) }
+        ensures only { IfOk result (λ delay. (other : ℕ) → IsDelayOfBits (setting circuit.now) pair.now.first pair.now.second other → other ≡ delay) }
+        ensures scratch { is_for scratch.new circuit.now }
+    {
+        let delay = self.measure(scratch, circuit, pair)?;
+        Ok(delay)
+    }
 }
 
 /// The product's own prober: it measures by one queue of events and bounds by sheets, as the search
@@ -100,5 +120,15 @@ impl Prober for Own {
         pair: &Pair,
     ) -> Result<u64, AllocError> {
         delay_of(&mut scratch.events, circuit, pair)
+    }
+
+    fn measure_until(
+        &self,
+        scratch: &mut Scratch,
+        circuit: &Circuit,
+        pair: &Pair,
+        stop: &Stop,
+    ) -> Result<u64, Interruption> {
+        delay_until(&mut scratch.events, circuit, pair, stop)
     }
 }

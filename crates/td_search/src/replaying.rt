@@ -18,6 +18,7 @@ use crate::task::Task;
 use std::alloc::{AllocError, Global};
 use td_book::{Lease, Node, State, Subtree};
 use td_domain::{Cube, Trit};
+use td_event_sim::Interruption;
 
 // Whether a position is free.
 fn is_free_at(cube: &Cube, position: usize) -> bool
@@ -313,7 +314,7 @@ impl Search {
     }
 
     // Splits a leaf where its cube is found to have a bound above the best, and answers the numbers
-    // of its sides. Where it hasn't, or memory runs out, the leaf stays open.
+    // of its sides. Where it hasn't, or memory runs out, or the stop is set, the leaf stays open.
     fn split_again<R: Rule>(
         &mut self,
         task: &Task<'_, R>,
@@ -347,13 +348,13 @@ impl Search {
     }
 
     // The strongest domain's bound of a cube, where the cube is found to be split; none where the
-    // stop is set. The error is out of memory.
+    // stop is set.
     fn bound_above<R: Rule>(
         &mut self,
         task: &Task<'_, R>,
         scratch: &mut R::Scratch,
         cube: &Cube,
-    ) -> Result<Option<u64>, AllocError>
+    ) -> Result<Option<u64>, Interruption>
         requires search { IsUnderWay (problem_of task.now.problem.now) self.old.book.budget self.old }
         requires scratch { R.is_for scratch.old task.now.problem.now.circuit.now }
         requires within { IsWithin (problem_of task.now.problem.now) cube.now }

@@ -15,6 +15,7 @@ use crate::problem::Problem;
 use crate::step::Step;
 use std::alloc::{AllocError, Global};
 use td_domain::Cube;
+use td_event_sim::Interruption;
 use td_lead::Timed;
 use td_stop::Stop;
 
@@ -59,14 +60,16 @@ pub trait Rule {
         ensures timed { IfOk result (λ answer. IfSome answer (IsTimed (setting problem.now.circuit.now) problem.now.admit.now)) }
         ensures scratch { is_for scratch.new problem.now.circuit.now };
 
-    /// The delay of the pair that stands for a cube, in steps.
+    /// The delay of the pair that stands for a cube, in steps, unless the stop is set before a long
+    /// simulation has come to its end.
     fn measure(
         &self,
         alloc: Global,
         problem: &Problem<'_>,
         scratch: &mut Self::Scratch,
         cube: &Cube,
-    ) -> Result<u64, AllocError>
+        stop: &Stop,
+    ) -> Result<u64, Interruption>
         requires scratch { is_for scratch.old problem.now.circuit.now }
         requires within { IsWithin (problem_of problem.now) cube.now }
         requires any { HasAdmitted problem.now.admit.now cube.now }

@@ -6,8 +6,10 @@ ghost use Rattle.td_terminal.specs.Shown.{shown, GoesUp, IsShown};
 
 use td_text::{DeviceFault, Sink};
 
-/// How a line of progress begins.
-const PROGRESS: &[u8] = b"nodes ";
+/// How a line of progress begins: of a search, of a table.
+const SEARCH: &[u8] = b"nodes ";
+
+const TABLE: &[u8] = b"rows ";
 
 /// Goes to the line above and clears it (ECMA-48: CUU and EL).
 const UP: &[u8] = b"\x1b[A\x1b[2K";
@@ -69,7 +71,7 @@ impl<S: Sink> InPlace<S> {
     {
         if self.is_ended {
             let was_progress = self.is_progress;
-            self.is_progress = bytes.starts_with(PROGRESS);
+            self.is_progress = bytes.starts_with(SEARCH) || bytes.starts_with(TABLE);
             if was_progress && self.is_progress {
                 self.sink.write_all(UP)?;
             }

@@ -22,6 +22,12 @@ fn progress_in_place(rt: HostRuntime) -> Result<(), Fail> {
         shown.as_slice(),
         b"nodes 1\n\x1b[A\x1b[2Knodes 2\ntdelay: no\nnodes 3\n".as_slice()
     );
+    let rows: [&[u8]; 2] = [b"rows 0\n", b"rows 1\n"];
+    let shown = written(&rt, true, &rows)?;
+    assert_eq!(rt;
+        shown.as_slice(),
+        b"rows 0\n\x1b[A\x1b[2Krows 1\n".as_slice()
+    );
     let plain = written(&rt, false, &texts)?;
     assert_eq!(rt;
         plain.as_slice(),

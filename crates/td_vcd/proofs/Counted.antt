@@ -1,10 +1,9 @@
--- A dump declares a variable for each driven net.
+-- A dump declares a variable for each name.
 use Rattle.std.proofs.Common.{◌≡◌, ℕ, suc, ◌+◌, Bool, true, false, List, [], ◌∷◌, ◌++◌, length, map, refl, ap, arith}
 use Rattle.std.specs.Prelude.{if◌then◌else◌}
 use Rattle.std.specs.List.{flat_map}
 use Rattle.td_gates.specs.Wave.{Wave}
 use Rattle.td_nets.specs.Netlist.{Name, Netlist}
-use Rattle.td_nets.specs.WellFormed.{driven}
 use Rattle.td_vcd.specs.declared.events.Event.{Event}
 use Rattle.td_vcd.specs.Text.{Line, numbered, start_line, declaration, events_from, events_at, event_line, moment_of, moment_lines, rising, change_lines, dump_lines, dump_head, dump_begins, dump_ends}
 use Rattle.td_vcd.specs.Says.{declares, declared}
@@ -38,9 +37,9 @@ moments events (t ∷ times) =
 head : (netlist : Netlist) → declared (dump_head netlist) ≡ 0
 head netlist = refl
 
-pub dump_declares : (netlist : Netlist) (waves : List Wave) → declared (dump_lines netlist waves) ≡ length (driven netlist)
-dump_declares netlist waves =
-    let names : List Line = numbered declaration 0 (driven netlist) in
+pub dump_declares : (netlist : Netlist) (all : List Name) (waves : List Wave) → declared (dump_lines netlist all waves) ≡ length all
+dump_declares netlist all waves =
+    let names : List Line = numbered declaration 0 all in
     let begun : List Line = numbered start_line 0 waves in
     let changes : List Line = change_lines (events_from 0 waves) in
     let five = both ((((dump_head netlist ++ names) ++ dump_begins) ++ begun) ++ dump_ends) changes in
@@ -50,6 +49,6 @@ dump_declares netlist waves =
     let one = both (dump_head netlist) names in
     let none = moments (events_from 0 waves) (rising (map moment_of (events_from 0 waves))) in
     let still = starts 0 waves in
-    let each = declarations 0 (driven netlist) in
+    let each = declarations 0 all in
     let first = head netlist in
     omega (arith, five, four, three, two, one, none, still, each, first)

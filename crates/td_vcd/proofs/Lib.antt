@@ -1,6 +1,8 @@
 pub mod Batches
+pub mod Choices
 pub mod Codes
 pub mod Moments
+pub mod Named
 pub mod Nets
 pub mod OneLine
 pub mod Parts

@@ -1,12 +1,12 @@
 -- The nets of the variables, and their waves.
-use Rattle.std.proofs.Common.{◌≡◌, ℕ, zero, suc, ◌<◌, List, ◌++◌, length, map, get_or, arith, inl, inr, sym, ap, ◌∙◌, Some}
+use Rattle.std.proofs.Common.{◌≡◌, ℕ, zero, suc, ◌<◌, List, [], ◌∷◌, ◌++◌, length, map, get_or, refl, arith, inl, inr, sym, ap, ◌∙◌, subst, Some}
 use Rattle.std.specs.Prelude.{slice_get}
 use Rattle.std.specs.List.{All}
-use Rattle.std.proofs.lemmas.List.{length-map, length-append, map-append}
+use Rattle.std.proofs.lemmas.List.{length-map, length-append, map-append, get_or-map}
 use Rattle.td_gates.specs.declared.primitives.Level.TheVariants.{X}
 use Rattle.td_gates.specs.Wave.{Wave}
-use Rattle.td_gates.proofs.Places.{Each, some-same, slice_get-some, slice_get-within, slice_get-get, slice_get-append_left, slice_get-append_right, slice_get-append_cases, slice_get-map_some, map-fuse}
-use Rattle.td_nets.specs.Netlist.{Name, Net, Named, Gate}
+use Rattle.td_gates.proofs.Places.{Each, some-same, slice_get-some, slice_get-within, slice_get-get, slice_get-append_left, slice_get-append_right, slice_get-append_cases, slice_get-map_some, map-fuse, maps_match}
+use Rattle.td_nets.specs.Netlist.{Name, Net, Low, Named, Gate}
 use Rattle.td_nets.specs.WellFormed.{driven, gate_outputs}
 use Rattle.td_circuit.specs.Numbering.{Numbered, nets, AreNumbersOf, IsNumbering}
 use Rattle.td_circuit.specs.NetValues.{net_wave}
@@ -15,6 +15,7 @@ use Rattle.td_circuit.proofs.Nets.{numbers-below}
 use Rattle.td_circuit.proofs.Values.{named-numbers, value_at}
 use Rattle.td_run.specs.Waves.{constant, waves_of}
 use Rattle.td_vcd.specs.Text.{variable_waves}
+use Rattle.td_vcd.specs.Chosen.{net_name, names_of, IsNamed}
 use Rattle.td_vcd.specs.Walks.{AreVariables}
 
 abbrev name_net : Name → Net
@@ -59,40 +60,50 @@ variables_are circuit numbers numbering long each =
     rw all (both (nets circuit) numbers circuit.gate_outputs (map name_net circuit.netlist.inputs)
     (map (λ (gate : Gate). Named gate.output) circuit.netlist.gates) (inputs_are circuit numbers long each) numbering.gate_outputs)
 
--- a number of a variable's net is that of a name
-pub variable_at : (circuit : Numbered) (numbers : List ℕ) → AreVariables circuit numbers → (i : ℕ) → i < length numbers
-    → (name : Name) × (slice_get (driven circuit.netlist) i ≡ Some name) × (slice_get (nets circuit) (get_or numbers i 0) ≡ Some (Named name))
-variable_at circuit numbers are i inside =
-    let number = slice_get-within numbers i inside in
-    let name = slice_get-within (driven circuit.netlist) i (omega (arith, inside, are.count, length-map (driven circuit.netlist) name_net)) in
-    let net = are.each i number.0 (Named name.0) number.1 (slice_get-map_some name_net (driven circuit.netlist) i name.0 name.1) in
-    (name.0, name.1, ap (λ (n : ℕ). slice_get (nets circuit) n) (slice_get-get numbers i number.0 0 number.1) ∙ net)
-
 not_constant : (circuit : Numbered) (n : ℕ) (name : Name) → slice_get (nets circuit) n ≡ Some (Named name) → 1 < n
 not_constant circuit zero name is = absurd cc
 not_constant circuit (suc zero) name is = absurd cc
 not_constant circuit (suc (suc n)) name is = omega arith
 
-pub above_constants : (circuit : Numbered) (numbers : List ℕ) → AreVariables circuit numbers → (i : ℕ) → i < length numbers
-    → 1 < get_or numbers i 0
-above_constants circuit numbers are i inside =
-    let at = variable_at circuit numbers are i inside in not_constant circuit (get_or numbers i 0) at.0 at.2
+-- each variable's net has a name
+pub all_named : (circuit : Numbered) (numbers : List ℕ) → AreVariables circuit numbers → All (IsNamed circuit) numbers
+all_named circuit numbers are = λ i d inside.
+    let number = slice_get-within numbers i inside in
+    let name = slice_get-within (driven circuit.netlist) i (omega (arith, inside, are.count, length-map (driven circuit.netlist) name_net)) in
+    let net : slice_get (nets circuit) number.0 ≡ Some (Named name.0) =
+    are.each i number.0 (Named name.0) number.1 (slice_get-map_some name_net (driven circuit.netlist) i name.0 name.1) in
+    subst (IsNamed circuit) (sym (slice_get-get numbers i number.0 d number.1)) (record {
+      above = not_constant circuit number.0 name.0 net;
+      below = slice_get-some (nets circuit) number.0 (Named name.0) net;
+    })
 
-pub below_nets : (circuit : Numbered) (numbers : List ℕ) → AreVariables circuit numbers → (i : ℕ) → i < length numbers
-    → get_or numbers i 0 < length (nets circuit)
-below_nets circuit numbers are i inside =
-    let at = variable_at circuit numbers are i inside in slice_get-some (nets circuit) (get_or numbers i 0) (Named at.0) at.2
+-- the name that a net has
+net_name_is : (net : Net) (name : Name) → net ≡ Named name → net_name net ≡ name
+net_name_is net name is = ap net_name is
 
--- the name of the net is that of the variable
-pub name_at : (circuit : Numbered) (numbers : List ℕ) → AreVariables circuit numbers → (i : ℕ) → i < length numbers → (name d : Name)
-    → slice_get (nets circuit) (get_or numbers i 0) ≡ Some (Named name) → get_or (driven circuit.netlist) i d ≡ name
-name_at circuit numbers are i inside name d is =
-    let at = variable_at circuit numbers are i inside in
-    let net : Named at.0 ≡ Named name = some-same (Named at.0) (Named name) (sym at.2 ∙ is) in
-    slice_get-get (driven circuit.netlist) i at.0 d at.1 ∙ cc
+-- the names of the variables are those of the driven nets
+pub names_are : (circuit : Numbered) (numbers : List ℕ) → AreVariables circuit numbers → names_of circuit numbers ≡ driven circuit.netlist
+names_are circuit numbers are =
+    maps_match (λ (number : ℕ). net_name (get_or (nets circuit) number Low)) (λ (name : Name). name) numbers (driven circuit.netlist)
+    (are.count ∙ length-map (driven circuit.netlist) name_net)
+    (λ i number name at_number at_name. net_name_is (get_or (nets circuit) number Low) name
+    (slice_get-get (nets circuit) number (Named name) Low
+    (are.each i number (Named name) at_number (slice_get-map_some name_net (driven circuit.netlist) i name at_name))))
+    ∙ map_same (driven circuit.netlist)
+  where
+    map_same : (names : List Name) → map (λ (name : Name). name) names ≡ names
+    map_same [] = refl
+    map_same (name ∷ names) = ap (λ ns. name ∷ ns) (map_same names)
 
-pub count_variables : (circuit : Numbered) (numbers : List ℕ) → AreVariables circuit numbers → length numbers ≡ length (driven circuit.netlist)
-count_variables circuit numbers are = are.count ∙ length-map (driven circuit.netlist) name_net
+pub count_names : (circuit : Numbered) (numbers : List ℕ) → length (names_of circuit numbers) ≡ length numbers
+count_names circuit numbers = length-map numbers (λ (number : ℕ). net_name (get_or (nets circuit) number Low))
+
+-- the name of a net by its number
+pub name_at : (circuit : Numbered) (numbers : List ℕ) (i : ℕ) (name : Name) → i < length numbers
+    → slice_get (nets circuit) (get_or numbers i 0) ≡ Some (Named name) → get_or (names_of circuit numbers) i name ≡ name
+name_at circuit numbers i name inside is =
+    get_or-map (λ (number : ℕ). net_name (get_or (nets circuit) number Low)) numbers i 0 name inside
+    ∙ net_name_is (get_or (nets circuit) (get_or numbers i 0) Low) name (slice_get-get (nets circuit) (get_or numbers i 0) (Named name) Low is)
 
 pub all_below : (circuit : Numbered) (numbers : List ℕ) (waves : List Wave) → AreVariables circuit numbers → length waves ≡ length (nets circuit)
     → All (λ number. number < length waves) numbers

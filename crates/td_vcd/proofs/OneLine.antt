@@ -11,12 +11,10 @@ use Rattle.td_nets.specs.declared.netlist.Scale.TheVariants as scale
 use Rattle.td_nets.specs.Identifiers.{is_simple_identifier}
 use Rattle.td_nets.specs.Netlist.{Name, Netlist}
 use Rattle.td_nets.specs.Printed.{printed, bit_text}
-use Rattle.td_nets.specs.WellFormed.{driven}
 use Rattle.td_nets.specs.Scales.{scale_text}
 use Rattle.td_vcd.specs.declared.events.Event.{Event}
 use Rattle.td_vcd.specs.Text.{Line, code_within, code, timescale, scope, dump_head, declaration, start_line, numbered, dump_begins, dump_ends, event_line, events_at, moment_lines, change_lines, events_from, dump_lines, rising, moment_of}
 use Rattle.td_vcd.specs.Says.{IsOnOneLine, IsOneLine}
-use Rattle.td_vcd.specs.Laws.{HasNamesOnOneLine}
 
 both : {A : Type 0} (P : A → Type 0) (xs ys : List A) → AllByRecursion P xs → AllByRecursion P ys → AllByRecursion P (xs ++ ys)
 both P [] ys p q = q
@@ -132,18 +130,19 @@ moments_fine events [] = tt
 moments_fine events (t ∷ moments) =
     both IsOneLine (moment_lines events t) (flat_map (moment_lines events) moments) (tt, events_fine (events_at t events)) (moments_fine events moments)
 
-pub dump_fine : (netlist : Netlist) (waves : List Wave) → HasNamesOnOneLine netlist → AllByRecursion IsOneLine (dump_lines netlist waves)
-dump_fine netlist waves fine =
+pub dump_fine : (netlist : Netlist) (all : List Name) (waves : List Wave) → IsOnOneLine netlist.name
+    → AllByRecursion (λ (name : Name). IsOnOneLine name.text) all → AllByRecursion IsOneLine (dump_lines netlist all waves)
+dump_fine netlist all waves own fine =
     let changes : List Line = change_lines (events_from 0 waves) in
     let starts : List Line = numbered start_line 0 waves in
-    let names : List Line = numbered declaration 0 (driven netlist) in
+    let names : List Line = numbered declaration 0 all in
     both IsOneLine ((((dump_head netlist ++ names) ++ dump_begins) ++ starts) ++ dump_ends) changes
     (both IsOneLine (((dump_head netlist ++ names) ++ dump_begins) ++ starts) dump_ends
     (both IsOneLine ((dump_head netlist ++ names) ++ dump_begins) starts
     (both IsOneLine (dump_head netlist ++ names) dump_begins
     (both IsOneLine (dump_head netlist) names
-    (by_look (codes "version tdelay 1 $end") refl, (timescale_fine netlist.unit, (scope_fine netlist.name fine.own, tt)))
-    (declarations_fine 0 (driven netlist) fine.nets))
+    (by_look (codes "version tdelay 1 $end") refl, (timescale_fine netlist.unit, (scope_fine netlist.name own, tt)))
+    (declarations_fine 0 all fine))
     (by_look (codes "upscope $end") refl, (by_look (codes "enddefinitions $end") refl, (tt, (by_look (codes "dumpvars") refl, tt)))))
     (starts_fine 0 waves))
     (by_look (codes "end") refl, tt))

@@ -3,7 +3,6 @@ use Rattle.std.proofs.Common.{◌≡◌, ℕ, suc, List, [], ◌∷◌, ◌++◌
 use Rattle.std.specs.List.{flat_map}
 use Rattle.td_gates.specs.Wave.{Wave}
 use Rattle.td_nets.specs.Netlist.{Name, Netlist}
-use Rattle.td_nets.specs.WellFormed.{driven}
 use Rattle.td_run.proofs.Sampling.{IsIncreasingFrom}
 use Rattle.td_vcd.specs.declared.events.Event.{Event}
 use Rattle.td_vcd.specs.Text.{Line, numbered, start_line, declaration, events_from, events_at, event_line, moment_of, moment_lines, rising, change_lines, dump_lines, dump_head, dump_begins, dump_ends}
@@ -28,13 +27,13 @@ of_moments events [] = refl
 of_moments events (t ∷ moments) =
     ap (λ (ns : List ℕ). suc t ∷ ns) (events_none (events_at t events) (flat_map (moment_lines events) moments) ∙ of_moments events moments)
 
-of_dump : (netlist : Netlist) (waves : List Wave) → numbers (dump_lines netlist waves) ≡ 0 ∷ map suc (rising (map moment_of (events_from 0 waves)))
-of_dump netlist waves =
+of_dump : (netlist : Netlist) (names : List Name) (waves : List Wave) → numbers (dump_lines netlist names waves) ≡ 0 ∷ map suc (rising (map moment_of (events_from 0 waves)))
+of_dump netlist names waves =
     let starts : List Line = numbered start_line 0 waves in
     let changes : List Line = change_lines (events_from 0 waves) in
     ap (λ (ls : List Line). numbers ls)
-    (regroup (dump_head netlist) (numbered declaration 0 (driven netlist)) dump_begins starts dump_ends changes)
-    ∙ declarations_none 0 (driven netlist) (dump_begins ++ (starts ++ (dump_ends ++ changes)))
+    (regroup (dump_head netlist) (numbered declaration 0 names) dump_begins starts dump_ends changes)
+    ∙ declarations_none 0 names (dump_begins ++ (starts ++ (dump_ends ++ changes)))
     ∙ ap (λ (ns : List ℕ). 0 ∷ ns) (starts_none 0 waves (dump_ends ++ changes)
     ∙ of_moments (events_from 0 waves) (rising (map moment_of (events_from 0 waves))))
 
@@ -42,7 +41,7 @@ rise : (n : ℕ) (moments : List ℕ) → IsIncreasingFrom n moments → AreRisi
 rise n [] increasing = tt
 rise n (t ∷ moments) increasing = (omega (arith, increasing.0), rise (suc t) moments increasing.1)
 
-pub dump_rises : (netlist : Netlist) (waves : List Wave) → AreRisingFrom 0 (numbers (dump_lines netlist waves))
-dump_rises netlist waves =
-    subst (λ (ns : List ℕ). AreRisingFrom 0 ns) (sym (of_dump netlist waves))
+pub dump_rises : (netlist : Netlist) (names : List Name) (waves : List Wave) → AreRisingFrom 0 (numbers (dump_lines netlist names waves))
+dump_rises netlist names waves =
+    subst (λ (ns : List ℕ). AreRisingFrom 0 ns) (sym (of_dump netlist names waves))
     (omega arith, rise 0 (rising (map moment_of (events_from 0 waves))) (rising-increasing (map moment_of (events_from 0 waves))))

@@ -10,7 +10,6 @@ use Rattle.td_gates.specs.Wave.{Wave, IsWave, IsRising, at}
 use Rattle.td_gates.proofs.Levels.{level_under, level_under-zero, level_under-suc}
 use Rattle.td_gates.proofs.Places.{none-some, some-same}
 use Rattle.td_nets.specs.Netlist.{Name, Netlist}
-use Rattle.td_nets.specs.WellFormed.{driven}
 use Rattle.td_run.proofs.Sampling.{IsIncreasingFrom}
 use Rattle.td_vcd.specs.declared.events.Event.{Event}
 use Rattle.td_vcd.specs.Text.{Line, numbered, start_line, declaration, event_of, events_from, events_at, event_line, moment_of, moment_lines, rising, change_lines, dump_lines, dump_head, dump_begins, dump_ends}
@@ -146,14 +145,14 @@ under_after-starts : (under j : ℕ) (waves : List Wave) → under_after under (
 under_after-starts under j [] = refl
 under_after-starts under j (wave ∷ waves) = under_after-starts under (suc j) waves
 
-said : (netlist : Netlist) (waves : List Wave) (k n : ℕ) (wave : Wave) (level : Level) → slice_get waves k ≡ Some wave → IsWave wave
-    → level_by k n 0 level (dump_lines netlist waves) ≡ level_under wave.start wave.changes n
-said netlist waves k n wave level is rises =
+said : (netlist : Netlist) (names : List Name) (waves : List Wave) (k n : ℕ) (wave : Wave) (level : Level) → slice_get waves k ≡ Some wave → IsWave wave
+    → level_by k n 0 level (dump_lines netlist names waves) ≡ level_under wave.start wave.changes n
+said netlist names waves k n wave level is rises =
     let starts : List Line = numbered start_line 0 waves in
     let changes : List Line = change_lines (events_from 0 waves) in
     ap (λ (ls : List Line). level_by k n 0 level ls)
-    (regroup (dump_head netlist) (numbered declaration 0 (driven netlist)) dump_begins starts dump_ends changes)
-    ∙ declarations_pass k n 0 0 level (driven netlist) (dump_begins ++ (starts ++ (dump_ends ++ changes)))
+    (regroup (dump_head netlist) (numbered declaration 0 names) dump_begins starts dump_ends changes)
+    ∙ declarations_pass k n 0 0 level names (dump_begins ++ (starts ++ (dump_ends ++ changes)))
     ∙ level_by-append k n 0 level starts (dump_ends ++ changes)
     ∙ ap (λ (u : ℕ). level_by k n u (level_by k n 0 level starts) (dump_ends ++ changes)) (under_after-starts 0 0 waves)
     ∙ ap (λ (l : Level). level_by k n 0 l changes)
@@ -167,12 +166,12 @@ wave_of_all [] k wave all is = absurd (none-some wave is)
 wave_of_all (first ∷ waves) zero wave all is = rw (some-same first wave is) at all.0
 wave_of_all (first ∷ waves) (suc k) wave all is = wave_of_all waves k wave all.1 is
 
-pub says_start : (netlist : Netlist) (waves : List Wave) (k : ℕ) (wave : Wave) (level : Level) → AllByRecursion IsWave waves
-    → slice_get waves k ≡ Some wave → level_by k 0 0 level (dump_lines netlist waves) ≡ wave.start
-says_start netlist waves k wave level all is =
-    said netlist waves k 0 wave level is (wave_of_all waves k wave all is) ∙ level_under-zero wave.start wave.changes
+pub says_start : (netlist : Netlist) (names : List Name) (waves : List Wave) (k : ℕ) (wave : Wave) (level : Level) → AllByRecursion IsWave waves
+    → slice_get waves k ≡ Some wave → level_by k 0 0 level (dump_lines netlist names waves) ≡ wave.start
+says_start netlist names waves k wave level all is =
+    said netlist names waves k 0 wave level is (wave_of_all waves k wave all is) ∙ level_under-zero wave.start wave.changes
 
-pub says_level : (netlist : Netlist) (waves : List Wave) (k t : ℕ) (wave : Wave) (level : Level) → AllByRecursion IsWave waves
-    → slice_get waves k ≡ Some wave → level_by k (suc t) 0 level (dump_lines netlist waves) ≡ at wave t
-says_level netlist waves k t wave level all is =
-    said netlist waves k (suc t) wave level is (wave_of_all waves k wave all is) ∙ level_under-suc wave.start wave.changes t
+pub says_level : (netlist : Netlist) (names : List Name) (waves : List Wave) (k t : ℕ) (wave : Wave) (level : Level) → AllByRecursion IsWave waves
+    → slice_get waves k ≡ Some wave → level_by k (suc t) 0 level (dump_lines netlist names waves) ≡ at wave t
+says_level netlist names waves k t wave level all is =
+    said netlist names waves k (suc t) wave level is (wave_of_all waves k wave all is) ∙ level_under-suc wave.start wave.changes t

@@ -1,20 +1,19 @@
 -- One turn of each loop.
-use Rattle.std.proofs.Common.{◌≡◌, ℕ, suc, ◌+◌, ◌<◌, ◌≤◌, List, [], ◌∷◌, ◌++◌, length, map, drop, get_or, refl, arith, sym, ap, ◌∙◌, append_assoc, append-nil}
-use Rattle.std.specs.Prelude.{slice_get, Some}
+use Rattle.std.proofs.Common.{◌≡◌, ℕ, suc, ◌+◌, ◌<◌, ◌≤◌, List, [], ◌∷◌, ◌++◌, length, map, take, drop, get_or, refl, arith, sym, ap, ◌∙◌, append_assoc, append-nil}
+use Rattle.std.specs.Borrow.{Bor}
 use Rattle.std.specs.List.{All}
-use Rattle.std.proofs.lemmas.List.{drop_more, drop_all, get_or-map}
+use Rattle.std.proofs.lemmas.List.{length-map, map-append, take_more, take_all, drop_more, drop_all, get_or-map}
 use Rattle.std.proofs.lemmas.List.Elements.{All-nil, All-append, All-map, All-head, All-tail}
 use Rattle.std.proofs.lemmas.List.Concat.{flat_map-append}
-use Rattle.td_gates.specs.declared.primitives.Level.TheVariants.{Zero, X}
+use Rattle.td_gates.specs.declared.primitives.Level.{Level}
+use Rattle.td_gates.specs.declared.primitives.Level.TheVariants.{Zero}
 use Rattle.td_gates.specs.declared.timing.Change.{Change}
 use Rattle.td_gates.specs.Wave.{Wave}
-use Rattle.td_gates.proofs.Places.{slice_get-get}
-use Rattle.td_nets.specs.Netlist.{Netlist}
-use Rattle.td_nets.specs.WellFormed.{driven}
-use Rattle.td_run.specs.Waves.{constant, AreWithin, waves_of}
+use Rattle.td_nets.specs.Netlist.{Name, Netlist}
+use Rattle.td_run.specs.Waves.{AreWithin}
 use Rattle.td_run.proofs.Turning.{change_origin}
 use Rattle.td_vcd.specs.declared.events.Event.{Event}
-use Rattle.td_vcd.specs.Text.{Line, ended, text_of, numbered, time_number, event_of, events_from, dump_head, declaration, start_line, dump_begins, dump_ends, change_lines, dump_lines, dump}
+use Rattle.td_vcd.specs.Text.{Line, Sets, ended, text_of, numbered, time_number, event_of, events_from, dump_head, declaration, start_line, dump_begins, dump_ends, change_lines, dump_lines, named_dump}
 use Rattle.td_vcd.specs.Walks.{event_lines, lines_from}
 
 -- ---- lines that are numbered
@@ -50,25 +49,61 @@ lines_end number events i past = rw (drop_all i events past) refl
 
 -- ---- the events of the variables
 
-pub events_step : (waves : List Wave) (numbers : List ℕ) (events whole : List Event) (i : ℕ) (wave : Wave) → i < length numbers
-    → get_or waves (get_or numbers i 0) (constant X) ≡ wave
-    → events ++ events_from i (waves_of waves (drop i numbers)) ≡ whole
-    → (events ++ map (event_of i) wave.changes) ++ events_from (i + 1) (waves_of waves (drop (i + 1) numbers)) ≡ whole
-events_step waves numbers events whole i wave inside is kept =
-    let split : drop i numbers ≡ get_or numbers i 0 ∷ drop (i + 1) numbers = drop_more numbers i 0 inside in
+events_step : (waves : List Wave) (events whole : List Event) (i : ℕ) (wave : Wave) → i < length waves → get_or waves i wave ≡ wave
+    → events ++ events_from i (drop i waves) ≡ whole
+    → (events ++ map (event_of i) wave.changes) ++ events_from (i + 1) (drop (i + 1) waves) ≡ whole
+events_step waves events whole i wave inside is kept =
+    let split : drop i waves ≡ wave ∷ drop (i + 1) waves = drop_more waves i wave inside ∙ ap (λ w. w ∷ drop (i + 1) waves) is in
     let next : suc i ≡ i + 1 = omega arith in
-    let opened : events ++ (map (event_of i) wave.changes ++ events_from (i + 1) (waves_of waves (drop (i + 1) numbers))) ≡ whole =
-    ap (λ (n : ℕ). events ++ (map (event_of i) wave.changes ++ events_from n (waves_of waves (drop (i + 1) numbers)))) (sym next)
-    ∙ ap (λ (w : Wave). events ++ (map (event_of i) w.changes ++ events_from (suc i) (waves_of waves (drop (i + 1) numbers)))) (sym is)
-    ∙ ap (λ (ns : List ℕ). events ++ events_from i (waves_of waves ns)) (sym split)
+    let opened : events ++ (map (event_of i) wave.changes ++ events_from (i + 1) (drop (i + 1) waves)) ≡ whole =
+    ap (λ (n : ℕ). events ++ (map (event_of i) wave.changes ++ events_from n (drop (i + 1) waves))) (sym next)
+    ∙ ap (λ (ws : List Wave). events ++ events_from i ws) (sym split)
     ∙ kept in
-    append_assoc events (map (event_of i) wave.changes) (events_from (i + 1) (waves_of waves (drop (i + 1) numbers))) ∙ opened
+    append_assoc events (map (event_of i) wave.changes) (events_from (i + 1) (drop (i + 1) waves)) ∙ opened
 
-pub wave_at : (waves : List Wave) (numbers : List ℕ) (i : ℕ) (wave : Wave) → i < length numbers
-    → slice_get waves (get_or numbers i 0) ≡ Some wave → get_or (waves_of waves numbers) i wave ≡ wave
-wave_at waves numbers i wave inside at =
-    get_or-map (λ (number : ℕ). get_or waves number (constant X)) numbers i 0 wave inside
-    ∙ slice_get-get waves (get_or numbers i 0) wave (constant X) at
+-- what the references among these stand for
+abbrev pub waves_behind : List (Bor Wave) → List Wave
+waves_behind refs = map (λ (wave : Bor Wave). wave.now) refs
+
+pub count_behind : (refs : List (Bor Wave)) → length (waves_behind refs) ≡ length refs
+count_behind refs = length-map refs (λ (wave : Bor Wave). wave.now)
+
+wave_behind : (refs : List (Bor Wave)) (i : ℕ) (ref : Bor Wave) → i < length refs → ref ≡ get_or refs i ref
+    → get_or (waves_behind refs) i ref.now ≡ ref.now
+wave_behind refs i ref inside is =
+    get_or-map (λ (wave : Bor Wave). wave.now) refs i ref ref.now inside ∙ ap (λ (wave : Bor Wave). wave.now) (sym is)
+
+-- one more wave's changes
+pub events_next : (refs : List (Bor Wave)) (events whole : List Event) (i : ℕ) (ref : Bor Wave) → i < length refs → ref ≡ get_or refs i ref
+    → events ++ events_from i (drop i (waves_behind refs)) ≡ whole
+    → (events ++ map (event_of i) ref.now.changes) ++ events_from (i + 1) (drop (i + 1) (waves_behind refs)) ≡ whole
+events_next refs events whole i ref inside is kept =
+    events_step (waves_behind refs) events whole i ref.now (omega (arith, inside, count_behind refs)) (wave_behind refs i ref inside is) kept
+
+-- one more wave's level at the start
+pub start_step : (refs : List (Bor Wave)) (i : ℕ) (ref : Bor Wave) (level : Level) → i < length refs → ref ≡ get_or refs i ref
+    → level ≡ ref.now.start
+    → text_of (numbered start_line i (drop i (waves_behind refs)))
+    ≡ ended (Sets i level) ++ text_of (numbered start_line (i + 1) (drop (i + 1) (waves_behind refs)))
+start_step refs i ref level inside is starts =
+    numbered_step start_line (waves_behind refs) i ref.now (omega (arith, inside, count_behind refs)) (wave_behind refs i ref inside is)
+    ∙ ap (λ (l : Level). ended (Sets i l) ++ text_of (numbered start_line (i + 1) (drop (i + 1) (waves_behind refs)))) (sym starts)
+
+-- one more reference to a wave
+pub refs_step : (f : ℕ → Wave) (nets : List ℕ) (i : ℕ) (refs grown : List (Bor Wave)) (ref : Bor Wave) → i < length nets
+    → waves_behind refs ≡ map f (take i nets) → grown ≡ refs ++ ref ∷ [] → ref.now ≡ f (get_or nets i 0)
+    → waves_behind grown ≡ map f (take (i + 1) nets)
+refs_step f nets i refs grown ref inside so is same =
+    ap (λ (rs : List (Bor Wave)). waves_behind rs) is
+    ∙ map-append (λ (wave : Bor Wave). wave.now) refs (ref ∷ [])
+    ∙ ap (λ (ws : List Wave). ws ++ ref.now ∷ []) so
+    ∙ ap (λ (w : Wave). map f (take i nets) ++ w ∷ []) same
+    ∙ sym (map-append f (take i nets) (get_or nets i 0 ∷ []))
+    ∙ ap (λ (ns : List ℕ). map f ns) (sym (take_more nets i 0 inside))
+
+pub refs_end : (f : ℕ → Wave) (nets : List ℕ) (i : ℕ) (refs : List (Bor Wave)) → length nets ≤ i → waves_behind refs ≡ map f (take i nets)
+    → waves_behind refs ≡ map f nets
+refs_end f nets i refs past so = so ∙ ap (λ (ns : List ℕ). map f ns) (take_all i nets past)
 
 -- no event is later than the changes are
 pub events_small : (bound variable : ℕ) (waves : List Wave) → All (λ (wave : Wave). AreWithin bound wave.changes) waves
@@ -109,15 +144,15 @@ six a b c d e f =
     ∙ ap (λ (t : List ℕ). text_of c ++ t) (flat_map-append ended d (e ++ f)
     ∙ ap (λ (t : List ℕ). text_of d ++ t) (flat_map-append ended e f))))
 
-pub dump_is : (netlist : Netlist) (waves : List Wave) → dump netlist waves ≡ text_of (dump_lines netlist waves)
-unfolding dump
-dump_is netlist waves = refl
+pub dump_is : (netlist : Netlist) (names : List Name) (waves : List Wave) → named_dump netlist names waves ≡ text_of (dump_lines netlist names waves)
+unfolding named_dump
+dump_is netlist names waves = refl
 
-pub dump_parts : (netlist : Netlist) (waves : List Wave) → dump netlist waves
-    ≡ text_of (dump_head netlist) ++ (text_of (numbered declaration 0 (driven netlist)) ++ (text_of dump_begins
+pub dump_parts : (netlist : Netlist) (names : List Name) (waves : List Wave) → named_dump netlist names waves
+    ≡ text_of (dump_head netlist) ++ (text_of (numbered declaration 0 names) ++ (text_of dump_begins
     ++ (text_of (numbered start_line 0 waves) ++ (text_of dump_ends ++ text_of (change_lines (events_from 0 waves))))))
-dump_parts netlist waves =
-    dump_is netlist waves ∙ six (dump_head netlist) (numbered declaration 0 (driven netlist)) dump_begins (numbered start_line 0 waves) dump_ends
+dump_parts netlist names waves =
+    dump_is netlist names waves ∙ six (dump_head netlist) (numbered declaration 0 names) dump_begins (numbered start_line 0 waves) dump_ends
     (change_lines (events_from 0 waves))
 
 -- one more change of a variable

@@ -127,19 +127,22 @@ change_lines events = flat_map (moment_lines events) (rising (map moment_of even
 
 -- ---- the text
 
--- the lines of a dump of these waves, one for each driven net: the inputs, and then the outputs of
--- the gates
-abbrev pub dump_lines : Netlist → List Wave → List Line
-dump_lines netlist waves =
+-- the lines of a dump of variables with these names and waves
+abbrev pub dump_lines : Netlist → List Name → List Wave → List Line
+dump_lines netlist names waves =
     dump_head netlist
-    ++ numbered declaration 0 (driven netlist)
+    ++ numbered declaration 0 names
     ++ dump_begins
     ++ numbered start_line 0 waves
     ++ dump_ends
     ++ change_lines (events_from 0 waves)
 
-unfoldable pub dump : Netlist → List Wave → List ℕ
-dump netlist waves = text_of (dump_lines netlist waves)
+unfoldable pub named_dump : Netlist → List Name → List Wave → List ℕ
+named_dump netlist names waves = text_of (dump_lines netlist names waves)
+
+-- the dump of a wave for each driven net: the inputs, and then the outputs of the gates
+abbrev pub dump : Netlist → List Wave → List ℕ
+dump netlist waves = named_dump netlist (driven netlist) waves
 
 -- the waves of the variables
 abbrev pub variable_waves : Netlist → (Net → Wave) → List Wave

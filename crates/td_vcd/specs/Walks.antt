@@ -1,11 +1,10 @@
 -- Internal: the lines of changes that come in the order of their moments, and the nets of the
 -- variables.
 use Rattle.std.specs.Prelude.{ℕ, List, [], ◌∷◌, ◌++◌, ◌==◌, map, codes, if◌then◌else◌}
-use Rattle.td_nets.specs.Netlist.{Named}
+use Rattle.td_gates.specs.Wave.{Wave}
+use Rattle.td_nets.specs.Netlist.{Name, Named}
 use Rattle.td_nets.specs.WellFormed.{driven}
 use Rattle.td_circuit.specs.Numbering.{Numbered, nets, AreNumbersOf}
-use Rattle.td_run.specs.Runs.{NetWaves}
-use Rattle.td_run.specs.Waves.{waves_of}
 use Rattle.td_vcd.specs.declared.events.Event.{Event}
 use Rattle.td_vcd.specs.Text.{Line, Number, text_of, numbered, declaration, start_line, time_number, event_line}
 
@@ -23,12 +22,13 @@ lines_from number (event ∷ later) = event_lines number event ++ lines_from (ti
 abbrev pub begins_text : List ℕ
 begins_text = codes "$upscope $end\n$enddefinitions $end\n#0\n$dumpvars\n"
 
--- the text after the head, where the variables have these nets and the changes come in this order
-abbrev pub body_text : Numbered → NetWaves → List ℕ → List Event → List ℕ
-body_text circuit run numbers events =
-    text_of (numbered declaration 0 (driven circuit.netlist))
+-- the text after the head, where the variables have these names and waves and the changes come in
+-- this order
+abbrev pub body_text : List Name → List Wave → List Event → List ℕ
+body_text names waves events =
+    text_of (numbered declaration 0 names)
     ++ (begins_text
-    ++ (text_of (numbered start_line 0 (waves_of run.waves numbers))
+    ++ (text_of (numbered start_line 0 waves)
     ++ (codes "$end\n" ++ text_of (lines_from 0 events))))
 
 -- these are the nets of the variables

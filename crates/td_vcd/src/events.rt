@@ -1,16 +1,16 @@
 //! The changes of the variables in the order in which a dump has them.
 
-ghost use Rattle.std.specs.Prelude.{◌≡◌, ◌++◌, ◌<◌, ◌≤◌, length, map, IfOk, OnOk, IsPermutation};
+ghost use Rattle.std.specs.Prelude.{◌≡◌, ◌++◌, ◌≤◌, map, IfOk, OnOk, IsPermutation};
 ghost use Rattle.std.specs.List.{All};
 ghost use Rattle.std.specs.List.Sorted.{IsNonDecreasingBy, IsStableByKey};
 ghost use Rattle.std.specs.Ordering.{nat_cmp};
-ghost use Rattle.td_run.specs.Waves.{AreWithin, waves_of};
+ghost use Rattle.td_run.specs.Waves.{AreWithin};
 ghost use Rattle.td_vcd.specs.Text.{event_of, events_from, moment_of, change_lines};
 ghost use Rattle.td_vcd.specs.Walks.{lines_from};
 
 use std::alloc::{AllocError, Global};
 use td_gates::Level;
-use td_run::{Run, Wave};
+use td_run::Wave;
 
 /// A change of a variable.
 #[derive(Clone, Copy, Debug, PartialEq, Eq, Drop)]
@@ -34,14 +34,13 @@ fn push_events(events: &mut Vec<Event>, variable: usize, wave: &Wave) -> Result<
     Ok(())
 }
 
-/// The changes of the variables that have these nets, one variable after another.
-fn events_of(alloc: Global, run: &Run, nets: &[u32]) -> Result<Vec<Event>, AllocError>
-    requires { All (λ net. net < length run.now.waves) nets.now }
-    ensures { IfOk result (λ events. events.items ≡ events_from 0 (waves_of run.now.waves nets.now)) }
+/// The changes of the variables that have these waves, one variable after another.
+fn events_of(alloc: Global, waves: &[&Wave]) -> Result<Vec<Event>, AllocError>
+    ensures { IfOk result (λ events. events.items ≡ events_from 0 (map (λ wave. wave.now) waves.now)) }
 {
     let mut events = Vec::new(alloc);
-    for (variable, net) in nets.iter().enumerate() {
-        push_events(&mut events, variable, run.wave(*net))?;
+    for (variable, wave) in waves.iter().enumerate() {
+        push_events(&mut events, variable, wave)?;
     }
     Ok(events)
 }
@@ -56,15 +55,16 @@ fn sort(events: &mut Vec<Event>) -> Result<(), AllocError>
     Ok(())
 }
 
-/// The changes of the variables that have these nets in the order of their moments, and those of
+/// The changes of the variables that have these waves in the order of their moments, and those of
 /// one moment in the order of the variables.
-pub fn events(alloc: Global, run: &Run, nets: &[u32]) -> Result<Vec<Event>, AllocError>
-    requires nets { All (λ net. net < length run.now.waves) nets.now }
-    requires small { All (λ wave. AreWithin 200001000000000 wave.changes) run.now.waves }
-    ensures lines { IfOk result (λ events. lines_from 0 events.items ≡ change_lines (events_from 0 (waves_of run.now.waves nets.now))) }
+pub fn events(alloc: Global, waves: &[&Wave]) -> Result<Vec<Event>, AllocError>
+    requires { All (λ wave. AreWithin 200001000000000 wave.changes)
+        (map (λ wave. wave.now) waves.now) }
+    ensures lines { IfOk result (λ events. lines_from 0 events.items
+        ≡ change_lines (events_from 0 (map (λ wave. wave.now) waves.now))) }
     ensures small { IfOk result (λ events. All (λ event. event.moment ≤ 200001000000000) events.items) }
 {
-    let mut events = events_of(alloc, run, nets)?;
+    let mut events = events_of(alloc, waves)?;
     sort(&mut events)?;
     Ok(events)
 }

@@ -8,4 +8,4 @@ pub mod laws;
 mod writing;
 
 pub use fault::VcdFault;
-pub use writing::write;
+pub use writing::{write, write_chosen};

@@ -6,3 +6,4 @@ mod EdgeLeaves
 mod Edged
 mod Standings
 mod KeptStandings
+pub mod Told

@@ -9,22 +9,28 @@ ghost use Rattle.td_worst.specs.Supports.{IsSupport, IsSupportOf};
 use crate::support::{HighTree, Support};
 use td_search::Answer;
 
-/// What a search found: its answer, and, where that is open, what may show its upper figure.
+/// What a search found: its answer, where that is open what may show its upper figure, and how many
+/// units of work its searches for a refutation took.
 #[derive(Drop)]
 pub struct Found {
     pub answer: Answer,
     pub support: Support,
+    pub work: u64,
 }
 
 impl Found {
-    /// An answer without steps, with a tree, if there is one.
+    /// An answer without steps or work, with a tree, if there is one.
     pub(crate) fn of(answer: Answer, tree: Option<HighTree>) -> Found
         ensures answer { result.answer ≡ answer }
         ensures steps { result.support.steps ≡ None }
         ensures support { (given : Setting) (admit : Admitted) → IsSupportOf given admit tree → IsSupport given admit result.support }
     {
         let support = Support { steps: None, tree };
-        Found { answer, support }
+        Found {
+            answer,
+            support,
+            work: 0,
+        }
     }
 }
 

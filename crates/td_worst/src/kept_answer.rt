@@ -56,6 +56,13 @@ pub enum KeptAnswer {
     },
 }
 
+/// The answer, and how many units of work the search took.
+#[derive(Drop)]
+pub struct KeptFound {
+    pub answer: KeptAnswer,
+    pub work: u64,
+}
+
 /// What is known of the pairs before lines show more: the latest one that was found, if any was, a
 /// bound of all, and why no more is known.
 #[derive(Drop)]

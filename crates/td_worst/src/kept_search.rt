@@ -10,7 +10,7 @@ ghost use Rattle.td_search.specs.Answers.{IsSearchFault};
 ghost use Rattle.td_search.specs.Problems.{problem_by};
 ghost use Rattle.td_worst.specs.Kept.{IsKeptAnswer, IsKeptWithinEdges, KeptTimeNeedsStop, asking_in};
 
-use crate::kept_answer::{KeptAnswer, Known};
+use crate::kept_answer::{KeptAnswer, KeptFound, Known};
 use crate::question::KeptQuestion;
 use crate::refuting::cause_of;
 use std::alloc::{AllocError, Global};
@@ -37,13 +37,13 @@ pub fn worst_kept<R: Threads + Sync>(
     alloc: Global,
     question: KeptQuestion<'_>,
     limits: Limits<'_>,
-) -> Result<KeptAnswer, SearchFault>
+) -> Result<KeptFound, SearchFault>
     requires held { length question.admit.now.held ≡ length question.circuit.now.netlist.inputs }
     requires fit { are_fit (2 + length question.circuit.now.netlist.inputs + length question.circuit.now.netlist.gates) question.keep.now ≡ true }
-    ensures answer { IfOk result (IsKeptAnswer (setting question.entry.circuit.now) (asking_in question.entry)) }
-    ensures edges { IfOk result (IsKeptWithinEdges (setting question.entry.circuit.now) question.entry.admit.now) }
+    ensures answer { IfOk result (λ found. IsKeptAnswer (setting question.entry.circuit.now) (asking_in question.entry) found.answer) }
+    ensures edges { IfOk result (λ found. IsKeptWithinEdges (setting question.entry.circuit.now) question.entry.admit.now found.answer) }
     // Time is a cause only where the stop can be set.
-    ensures time { IfOk result (KeptTimeNeedsStop limits.entry.stop.now.can_be_set) }
+    ensures time { IfOk result (λ found. KeptTimeNeedsStop limits.entry.stop.now.can_be_set found.answer) }
     ensures fault { IfErr result (IsSearchFault (problem_by strategy.Lead question.entry.circuit.now question.entry.admit.now)) }
 {
     let KeptQuestion {
@@ -63,7 +63,8 @@ pub fn worst_kept<R: Threads + Sync>(
     let Limits { effort, stop } = limits;
     if effort.budget == 0 {
         let cause = Cause::Budget;
-        return Ok(KeptAnswer::Open { high, cause });
+        let answer = KeptAnswer::Open { high, cause };
+        return Ok(KeptFound { answer, work: 0 });
     }
     let mut further = Effort::until(stop);
     further.work = effort.budget;
@@ -75,14 +76,17 @@ pub fn worst_kept<R: Threads + Sync>(
                 best,
                 evidence,
                 ending,
+                work,
             } = answered;
             let cause = cause_of(ending, stop);
             let known = Known { best, high, cause };
-            Ok(known.shown(alloc, keep, evidence))
+            let answer = known.shown(alloc, keep, evidence);
+            Ok(KeptFound { answer, work })
         }
         Err(_) => {
             let cause = Cause::Memory;
-            Ok(KeptAnswer::Open { high, cause })
+            let answer = KeptAnswer::Open { high, cause };
+            Ok(KeptFound { answer, work: 0 })
         }
     }
 }

@@ -13,10 +13,11 @@ mod question;
 mod refuting;
 mod searching;
 mod support;
+mod telling;
 
 pub use evidence::tree_of_high;
 pub use found::Found;
-pub use kept_answer::KeptAnswer;
+pub use kept_answer::{KeptAnswer, KeptFound};
 pub use kept_search::worst_kept;
 pub use method::Method;
 pub use question::{KeptQuestion, Question};

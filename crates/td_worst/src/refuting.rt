@@ -18,12 +18,12 @@ use std::alloc::{AllocError, Global};
 use std::thread::Threads;
 use td_event_sim::Scratch;
 use td_lead::Timed;
-use td_refute::{Effort, Ending, Refuted, Sought, refute};
+use td_refute::{Effort, Ending, Refuted, refute};
 use td_search::{Answer, Cause, Problem};
 use td_stop::Stop;
 
-/// Why a search ends that shows no more: the time where the stop is set, the budget where it was
-/// reached, else the memory that it would need.
+/// Why a search ends that shows no more: the time where the stop is set, the memory that it would
+/// need, else the budget, also where there is nothing more to try before that is used up.
 pub(crate) fn cause_of(ending: Ending, stop: &Stop) -> Cause
     ensures { result ≡ cause.Time → stop.now.can_be_set ≡ true }
 {
@@ -31,8 +31,8 @@ pub(crate) fn cause_of(ending: Ending, stop: &Stop) -> Cause
         return Cause::Time;
     }
     match ending {
-        Ending::Work => Cause::Budget,
-        _ => Cause::Memory,
+        Ending::Memory => Cause::Memory,
+        _ => Cause::Budget,
     }
 }
 
@@ -93,22 +93,25 @@ impl OpenAnswer {
 }
 
 /// What a refutation makes of an answer, and, where that stays open, steps that show a bound, if
-/// there are some. The bound may be above the answer's upper figure.
+/// there are some, and how many units of work it took. The bound may be above the answer's upper
+/// figure.
 #[derive(Drop)]
 pub struct Stepped {
     pub answer: Answer,
     pub refuted: Option<Refuted>,
+    pub work: u64,
 }
 
 impl Stepped {
     // An answer without steps.
-    fn of(answer: Answer) -> Stepped
+    fn of(answer: Answer, work: u64) -> Stepped
         ensures answer { result.answer ≡ answer }
         ensures refuted { result.refuted ≡ Nothing }
     {
         Stepped {
             answer,
             refuted: None,
+            work,
         }
     }
 }
@@ -134,7 +137,7 @@ pub fn refuted_further<R: Threads + Sync>(
     ensures shown { IfSome result.refuted (IsShown (setting problem.now.circuit.now) problem.now.admit.now) }
 {
     match known {
-        Answer::Exact { time, pair, tree } => Stepped::of(Answer::Exact { time, pair, tree }),
+        Answer::Exact { time, pair, tree } => Stepped::of(Answer::Exact { time, pair, tree }, 0),
         Answer::Between {
             low,
             high,
@@ -172,24 +175,26 @@ fn refute_open_answer<R: Threads + Sync>(
     let _moments = problem.circuit.moments();
     let _pins = problem.admit.pins();
     let mut known = known;
-    let (found, why) = search(rt, alloc, problem, &mut known.best, effort);
+    let Ended { found, why, work } = search(rt, alloc, problem, &mut known.best, effort);
     match found {
         Ok(Some(refuted)) => {
             let answer = known.refuted(alloc, &refuted, why);
-            with_steps(answer, refuted)
+            with_steps(answer, refuted, work)
         }
-        Ok(None) => Stepped::of(known.between(why)),
-        Err(_) => Stepped::of(known.between(Cause::Memory)),
+        Ok(None) => Stepped::of(known.between(why), work),
+        Err(_) => Stepped::of(known.between(Cause::Memory), work),
     }
 }
 
 // An answer with the steps, which an exact one has in its tree.
-fn with_steps(answer: Answer, refuted: Refuted) -> Stepped
+fn with_steps(answer: Answer, refuted: Refuted, work: u64) -> Stepped
     ensures answer { result.answer ≡ answer }
     ensures steps { IfSome result.refuted (λ steps. steps ≡ refuted) }
 {
     match answer {
-        Answer::Exact { time, pair, tree } => Stepped::of(Answer::Exact { time, pair, tree }),
+        Answer::Exact { time, pair, tree } => {
+            Stepped::of(Answer::Exact { time, pair, tree }, work)
+        }
         Answer::Between {
             low,
             high,
@@ -205,27 +210,40 @@ fn with_steps(answer: Answer, refuted: Refuted) -> Stepped
                 cause,
             },
             refuted: Some(refuted),
+            work,
         },
     }
 }
 
-// Searches for a refutation, from the best pair on. Says why it shows no more. The error is out of
-// memory.
+// What a search for a refutation came to: steps that show a bound, if there are some, unless memory
+// ran out; why it shows no more; and how many units of work it took.
+#[derive(Drop)]
+struct Ended {
+    found: Result<Option<Refuted>, AllocError>,
+    why: Cause,
+    work: u64,
+}
+
+// Searches for a refutation, from the best pair on.
 fn search<R: Threads + Sync>(
     rt: &R,
     alloc: Global,
     problem: &Problem<'_>,
     best: &mut Timed,
     effort: Effort<'_>,
-) -> (Result<Option<Refuted>, AllocError>, Cause)
+) -> Ended
     requires best { IsTimed (setting problem.now.circuit.now) problem.now.admit.now best.old }
     ensures best { IsTimed (setting problem.now.circuit.now) problem.now.admit.now best.new }
     ensures no_less { best.old.time ≤ best.new.time }
-    ensures shown { IfOk result.0 (λ found. IfSome found (IsShown (setting problem.now.circuit.now) problem.now.admit.now)) }
-    ensures cause { result.1 ≡ cause.Time → effort.entry.stop.now.can_be_set ≡ true }
+    ensures shown { IfOk result.found (λ found. IfSome found (IsShown (setting problem.now.circuit.now) problem.now.admit.now)) }
+    ensures cause { result.why ≡ cause.Time → effort.entry.stop.now.can_be_set ≡ true }
 {
     let Ok(mut scratch) = Scratch::new(alloc, problem.circuit) else {
-        return (Err(AllocError), Cause::Memory);
+        return Ended {
+            found: Err(AllocError),
+            why: Cause::Memory,
+            work: 0,
+        };
     };
     let stop = effort.stop;
     match refute(
@@ -237,7 +255,15 @@ fn search<R: Threads + Sync>(
         best,
         effort,
     ) {
-        Ok(Sought { refuted, ending }) => (Ok(refuted), cause_of(ending, stop)),
-        Err(error) => (Err(error), Cause::Memory),
+        Ok(sought) => Ended {
+            found: Ok(sought.refuted),
+            why: cause_of(sought.ending, stop),
+            work: sought.work,
+        },
+        Err(error) => Ended {
+            found: Err(error),
+            why: Cause::Memory,
+            work: 0,
+        },
     }
 }

@@ -15,8 +15,8 @@ use crate::edge_bound::bounded_by_edges;
 use crate::found::{Found, is_answered};
 use crate::method::Method;
 use crate::question::Question;
-use crate::refuting::refuted_further;
 use crate::support::{Support, Treed, lower_steps};
+use crate::telling::refuted_told;
 use std::alloc::Global;
 use std::sync::Wait;
 use std::thread::Threads;
@@ -60,7 +60,7 @@ const LAST: Share = Share {
 /// or none can be, and `Auto` ends with the search that says so. Trees have at most as many nodes
 /// as the budget of the effort says, and a search for a refutation ends after that many units of
 /// work. Once the stop is set, the search ends, and the answer says what is known by then. The
-/// watch gets the progress of a tree.
+/// watch gets the progress of a tree, and what is known before and after a refutation.
 ///
 /// # Errors
 ///
@@ -153,7 +153,7 @@ fn by_refutation<W: Watch, R: Threads + Wait + Sync>(
         return Ok(Found::of(known, begun.tree));
     }
     let further = with_work(limits, budget, required);
-    let shown = refuted_further(rt, alloc, &problem, known, budget, further);
+    let shown = refuted_told(rt, alloc, &problem, known, budget, further, watch);
     let support = Support {
         steps: shown.refuted,
         tree: begun.tree,
@@ -161,6 +161,7 @@ fn by_refutation<W: Watch, R: Threads + Wait + Sync>(
     Ok(Found {
         answer: shown.answer,
         support,
+        work: shown.work,
     })
 }
 
@@ -284,7 +285,7 @@ fn further<W: Watch, R: Threads + Wait + Sync>(
     let budget = effort.budget;
     let quick = QUICK.min(budget / 4);
     let little = with_work(limits, quick, required);
-    let soon = refuted_further(rt, alloc, &problem, known.answer, nodes, little);
+    let soon = refuted_told(rt, alloc, &problem, known.answer, nodes, little, watch);
     if !is_open(&soon.answer) || is_answered(required, &soon.answer) {
         let support = Support {
             steps: soon.refuted,
@@ -293,6 +294,7 @@ fn further<W: Watch, R: Threads + Wait + Sync>(
         return Found {
             answer: soon.answer,
             support,
+            work: soon.work,
         };
     }
     let left = budget - quick;
@@ -312,11 +314,13 @@ fn further<W: Watch, R: Threads + Wait + Sync>(
         return Found {
             answer: led.answer,
             support,
+            work: soon.work,
         };
     }
     let much = with_work(limits, left - more - most, required);
-    let shown = refuted_further(rt, alloc, &problem, led.answer, nodes + more, much);
+    let shown = refuted_told(rt, alloc, &problem, led.answer, nodes + more, much, watch);
     let steps = lower_steps(soon.refuted, shown.refuted);
+    let work = soon.work.saturating_add(shown.work);
     if is_exact(&shown.answer) || is_answered(required, &shown.answer) {
         let support = Support {
             steps,
@@ -325,6 +329,7 @@ fn further<W: Watch, R: Threads + Wait + Sync>(
         return Found {
             answer: shown.answer,
             support,
+            work,
         };
     }
     let again = Treed {
@@ -340,6 +345,7 @@ fn further<W: Watch, R: Threads + Wait + Sync>(
     Found {
         answer: ended.answer,
         support,
+        work,
     }
 }
 

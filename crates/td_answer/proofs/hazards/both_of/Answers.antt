@@ -12,6 +12,7 @@ use Rattle.td_question.specs.Keeping.{count_nets}
 use Rattle.td_answer.specs.Columns.{IsOnlyOutput, pairs_of, where_settles}
 use Rattle.td_answer.specs.Hazards.{IsTrueHazard, settles_at}
 use Rattle.td_answer.specs.Names.{label}
+use Rattle.td_answer.specs.Outlooks.{IsTrueOutlook}
 use Rattle.td_answer.proofs.hazards.both_of.Goals as goal
 
 pub output_number-requires : goal.output_number-requires
@@ -53,6 +54,24 @@ hazard_at-requires-2-clause-fit g c κs lives =
     (named_there c.names.result.now c.args.place c.index-names-place.result within c.index-names-place.is) in
     let asked = c.in_ok-ask.ensures.asked (name_of c.index-names-place.result) at in
     rw c.circuit-circuit.ensures (subst (λ (s : Setting). are_fit (count_nets s.netlist) c.args.inquiry.keep.now ≡ true) (sym asked) c.requires.fit)
+
+pub hazard_at-requires-clause-outlook : goal.hazard_at-requires-clause-outlook
+hazard_at-requires-clause-outlook g c κs lives =
+    let within : c.args.place < length c.names.result.now = omega (arith, length-map c.names.result.now name_of, ap (λ (ns : List Name). length ns) c.names.ensures, c.requires.place) in
+    let at = subst (λ (ns : List Name). slice_get ns c.args.place ≡ Some (name_of c.index-names-place.result)) c.names.ensures
+    (named_there c.names.result.now c.args.place c.index-names-place.result within c.index-names-place.is) in
+    let asked = c.in_ok-ask.ensures.asked (name_of c.index-names-place.result) at in
+    rw c.circuit-circuit.ensures (subst (λ (s : Setting). IsTrueOutlook s c.args.inquiry.admit.now c.args.outlook) (sym asked)
+    (c.requires.outlook (name_of c.index-names-place.result) at))
+
+pub hazard_at-requires-2-clause-outlook : goal.hazard_at-requires-2-clause-outlook
+hazard_at-requires-2-clause-outlook g c κs lives =
+    let within : c.args.place < length c.names.result.now = omega (arith, length-map c.names.result.now name_of, ap (λ (ns : List Name). length ns) c.names.ensures, c.requires.place) in
+    let at = subst (λ (ns : List Name). slice_get ns c.args.place ≡ Some (name_of c.index-names-place.result)) c.names.ensures
+    (named_there c.names.result.now c.args.place c.index-names-place.result within c.index-names-place.is) in
+    let asked = c.in_ok-ask.ensures.asked (name_of c.index-names-place.result) at in
+    rw c.circuit-circuit.ensures (subst (λ (s : Setting). IsTrueOutlook s c.args.inquiry.admit.now c.args.outlook) (sym asked)
+    (c.requires.outlook (name_of c.index-names-place.result) at))
 
 pub returns-clause-rows : goal.returns-clause-rows
 returns-clause-rows g c = λ output stands.

@@ -29,18 +29,18 @@ between-requires c =
 
 pub returns-in_ok-closed-in-Exact-clause-says : goal.returns-in_ok-closed-in-Exact-clause-says
 returns-in_ok-closed-in-Exact-clause-says c = λ text reading asked.
-    exact_says c.args.circuit c.args.admit c.args.told c.args.search.now text reading asked c.in_ok-closed-in-Exact.closed c.in-Exact.best c.in-Exact.tree
+    exact_says c.args.circuit c.args.admit c.args.told c.args.ended text reading asked c.in_ok-closed-in-Exact.closed c.in-Exact.best c.in-Exact.tree
     (rw c.in-Exact.is at c.requires.answer).0 c.in_ok-closed-in-Exact.ensures.report c.in_ok-closed-in-Exact.ensures.status c.in_ok-closed-in-Exact.ensures.dumped
 
 pub returns-in_ok-closed-in-Exact-clause-certified : goal.returns-in_ok-closed-in-Exact-clause-certified
 returns-in_ok-closed-in-Exact-clause-certified c = λ text reading asked are_outputs same.
-    exact_kept c.args.circuit c.args.admit c.args.told c.args.search.now text reading asked c.in_ok-closed-in-Exact.closed are_outputs same
+    exact_kept c.args.circuit c.args.admit c.args.told c.args.ended text reading asked c.in_ok-closed-in-Exact.closed are_outputs same
     c.in_ok-closed-in-Exact.ensures.told c.in_ok-closed-in-Exact.ensures.few c.in-Exact.best c.in-Exact.tree
     (rw c.in-Exact.is at c.requires.answer).1 c.in_ok-closed-in-Exact.ensures.report c.in_ok-closed-in-Exact.ensures.certificate
 
 pub returns-in_ok-closed-in-Exact-clause-written : goal.returns-in_ok-closed-in-Exact-clause-written
 returns-in_ok-closed-in-Exact-clause-written c =
-    certificate_and_dump (is_some c.args.search.now.dump) (setting c.args.circuit) (RunsPair (setting c.args.circuit) c.in-Exact.best.pair) _ c.in_ok-closed-in-Exact.closed
+    certificate_and_dump (is_some c.args.ended.search.now.dump) (setting c.args.circuit) (RunsPair (setting c.args.circuit) c.in-Exact.best.pair) _ c.in_ok-closed-in-Exact.closed
     c.in_ok-closed-in-Exact.ensures.certificate
     (certificate_written c.args.circuit c.args.admit c.args.told _ c.in-Exact.tree (rw c.in-Exact.is at c.requires.answer).1
     c.in_ok-closed-in-Exact.ensures.told c.in_ok-closed-in-Exact.ensures.few)
@@ -48,38 +48,38 @@ returns-in_ok-closed-in-Exact-clause-written c =
 
 pub returns-in_ok-lying-in-Between-clause-says : goal.returns-in_ok-lying-in-Between-clause-says
 returns-in_ok-lying-in-Between-clause-says c = λ text reading asked.
-    between_says c.args.circuit c.args.admit c.args.told c.args.search.now text reading asked c.in_ok-lying-in-Between.lying c.in-Between.best c.in-Between.high c.cause_of-why.result
+    between_says c.args.circuit c.args.admit c.args.told c.args.ended text reading asked c.in_ok-lying-in-Between.lying c.in-Between.best c.in-Between.high c.cause-why.result
     (rw c.in-Between.is at c.requires.answer).0 c.in_ok-lying-in-Between.ensures.report c.in_ok-lying-in-Between.ensures.status c.in_ok-lying-in-Between.ensures.dumped
 
 pub returns-in_ok-lying-in-Between-clause-certified : goal.returns-in_ok-lying-in-Between-clause-certified
 returns-in_ok-lying-in-Between-clause-certified c = λ text reading asked are_outputs same.
-    between_kept c.args.circuit c.args.admit c.args.told c.args.search.now text reading asked c.in_ok-lying-in-Between.lying are_outputs same
-    c.in-Between.best c.in-Between.high c.cause_of-why.result c.in_ok-lying-in-Between.ensures.certificate c.in_ok-lying-in-Between.ensures.report
+    between_kept c.args.circuit c.args.admit c.args.told c.args.ended text reading asked c.in_ok-lying-in-Between.lying are_outputs same
+    c.in-Between.best c.in-Between.high c.cause-why.result c.in_ok-lying-in-Between.ensures.certificate c.in_ok-lying-in-Between.ensures.report
 
 pub returns-in_ok-lying-in-Between-clause-written : goal.returns-in_ok-lying-in-Between-clause-written
 returns-in_ok-lying-in-Between-clause-written c =
-    spelled_and_dump (is_some c.args.search.now.dump) (setting c.args.circuit) (RunsPair (setting c.args.circuit) c.in-Between.best.pair) c.in_ok-lying-in-Between.lying
-    (open_written c.args.circuit c.args.admit c.args.told c.args.search.now c.in-Between.best c.in-Between.high c.in_ok-lying-in-Between.lying.certificate
+    spelled_and_dump (is_some c.args.ended.search.now.dump) (setting c.args.circuit) (RunsPair (setting c.args.circuit) c.in-Between.best.pair) c.in_ok-lying-in-Between.lying
+    (open_written c.args.circuit c.args.admit c.args.told c.args.ended.search.now c.in-Between.best c.in-Between.high c.in_ok-lying-in-Between.lying.certificate
     c.in_ok-lying-in-Between.ensures.certificate) c.in_ok-lying-in-Between.ensures.dumped
 
 pub returns-in_ok-bounded-in-Open-clause-says : goal.returns-in_ok-bounded-in-Open-clause-says
 returns-in_ok-bounded-in-Open-clause-says c = λ text reading asked.
-    at_most_says c.args.circuit c.args.admit c.args.told c.args.search.now text reading asked c.in_ok-bounded-in-Open.bounded c.in-Open.high c.cause_of-why-in-Open.result
+    at_most_says c.args.circuit c.args.admit c.args.told c.args.ended text reading asked c.in_ok-bounded-in-Open.bounded c.in-Open.high c.cause-why-in-Open.result
     (rw c.in-Open.is at c.requires.answer) c.in_ok-bounded-in-Open.ensures.report c.in_ok-bounded-in-Open.ensures.status c.in_ok-bounded-in-Open.ensures.dumped
 
 pub returns-in_ok-bounded-in-Open-clause-certified : goal.returns-in_ok-bounded-in-Open-clause-certified
 returns-in_ok-bounded-in-Open-clause-certified c = λ text reading asked are_outputs same.
-    open_kept c.args.circuit c.args.admit c.args.told c.args.search.now text reading asked c.in_ok-bounded-in-Open.bounded c.in-Open.high c.cause_of-why-in-Open.result
+    open_kept c.args.circuit c.args.admit c.args.told c.args.ended text reading asked c.in_ok-bounded-in-Open.bounded c.in-Open.high c.cause-why-in-Open.result
     c.in_ok-bounded-in-Open.ensures.certificate c.in_ok-bounded-in-Open.ensures.report
 
 pub returns-in_ok-empty-in-NoPair-clause-says : goal.returns-in_ok-empty-in-NoPair-clause-says
 returns-in_ok-empty-in-NoPair-clause-says c = λ text reading asked.
-    none_says c.args.circuit c.args.admit c.args.told c.args.search.now text reading asked c.in_ok-empty-in-NoPair.empty c.in-NoPair.tree
+    none_says c.args.circuit c.args.admit c.args.told c.args.ended text reading asked c.in_ok-empty-in-NoPair.empty c.in-NoPair.tree
     (rw c.in-NoPair.is at c.requires.answer).0 c.in_ok-empty-in-NoPair.ensures.report c.in_ok-empty-in-NoPair.ensures.status c.in_ok-empty-in-NoPair.ensures.dumped
 
 pub returns-in_ok-empty-in-NoPair-clause-certified : goal.returns-in_ok-empty-in-NoPair-clause-certified
 returns-in_ok-empty-in-NoPair-clause-certified c = λ text reading asked are_outputs same.
-    none_kept c.args.circuit c.args.admit c.args.told c.args.search.now text reading asked c.in_ok-empty-in-NoPair.empty are_outputs same
+    none_kept c.args.circuit c.args.admit c.args.told c.args.ended text reading asked c.in_ok-empty-in-NoPair.empty are_outputs same
     c.in_ok-empty-in-NoPair.ensures.told c.in_ok-empty-in-NoPair.ensures.few c.in-NoPair.tree
     (rw c.in-NoPair.is at c.requires.answer).1 c.in_ok-empty-in-NoPair.ensures.report c.in_ok-empty-in-NoPair.ensures.certificate
 

@@ -20,14 +20,14 @@ outcome_of-requires g c = record {
   held = asked_held c.args.text.now c.args.reading.now c.args.search.now.question (setting c.args.asked.circuit) c.args.asked.admit c.requires.asked;
   flips = asked_flips c.args.text.now c.args.reading.now c.args.search.now.question (setting c.args.asked.circuit) c.args.asked.admit c.requires.asked;
   fit = subst (λ (n : ℕ). are_fit n c.args.asked.keep.items ≡ true) (omega arith) c.requires.keep.rising;
-  answer = rw c.deref.ensures.value at c.in_ok-answer.ensures.answer;
+  answer = rw c.deref.ensures.value at c.in_ok-found.ensures.answer;
 }
 
-pub returns-in_err-answer-clause-refusal : goal.returns-in_err-answer-clause-refusal
-returns-in_err-answer-clause-refusal g c =
+pub returns-in_err-found-clause-refusal : goal.returns-in_err-found-clause-refusal
+returns-in_err-found-clause-refusal g c =
     let reported = err_from_is_err_and c.from_residual.result c.from_residual.ensures.1 in
     rw (reported.1, reported.2) (refused c.args.text.now c.args.reading.now c.args.search.now c.args.asked.circuit c.args.asked.admit Lead c.requires.asked
-    c.in_err-answer.field-0.0 c.in_err-answer.ensures.fault)
+    c.in_err-found.field-0.0 c.in_err-found.ensures.fault)
 
 pub returns-clause-says : goal.returns-clause-says
 returns-clause-says g c =

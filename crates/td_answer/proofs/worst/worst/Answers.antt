@@ -50,8 +50,8 @@ pub returns-clause-says : goal.returns-clause-says
 returns-clause-says g c =
     true_without c.args.text.now c.args.reading.now c.args.search.now c.in_ok-outcome.outcome (without c.args.search.now.question c.in_ok-asked.asked.circuit.netlist c.in_ok-asked.asked.keep.items c.in_ok-asked.ensures.keep
     (no_rows c.in_ok-asked.asked.keep.items (sym c.in_ok-asked.asked.keep.ok.0 ∙ eqb-true _ _ (sym c.is_empty.ensures ∙ c.if-not-is_empty.false))))
-    (says c.args.text.now c.args.reading.now c.args.search.now c.in_ok-asked.asked.circuit c.in_ok-asked.asked.admit (tree_of c.method_of-method.result)
-    c.in_ok-asked.ensures.asked c.was_asked.result c.limits_of-limits.result.effort.budget c.in_ok-found.found.answer c.in_ok-outcome.outcome
+    (says c.args.text.now c.args.reading.now (record { search = c.args.search; was_asked = c.was_asked.result; work = c.in_ok-found.found.work }) c.in_ok-asked.asked.circuit c.in_ok-asked.asked.admit (tree_of c.method_of-method.result)
+    c.in_ok-asked.ensures.asked c.limits_of-limits.result.effort.budget c.in_ok-found.found.answer c.in_ok-outcome.outcome
     (outcome_by c.method_of-method.result _ c.limits_of-limits.result.effort.budget c.in_ok-found.found.answer c.in_ok-found.ensures.answer)
     c.in_ok-outcome.ensures.report c.in_ok-outcome.ensures.status c.in_ok-outcome.ensures.dumped)
 
@@ -59,10 +59,11 @@ pub returns-clause-certified : goal.returns-clause-certified
 returns-clause-certified g c =
     certified_without c.args.text.now c.args.reading.now c.args.search.now c.in_ok-outcome.outcome (without c.args.search.now.question c.in_ok-asked.asked.circuit.netlist c.in_ok-asked.asked.keep.items c.in_ok-asked.ensures.keep
     (no_rows c.in_ok-asked.asked.keep.items (sym c.in_ok-asked.asked.keep.ok.0 ∙ eqb-true _ _ (sym c.is_empty.ensures ∙ c.if-not-is_empty.false))))
-    (certified c.args.text.now c.args.reading.now c.args.search.now c.in_ok-asked.asked.circuit c.in_ok-asked.asked.admit (tree_of c.method_of-method.result)
+    (certified c.args.text.now c.args.reading.now (record { search = c.args.search; was_asked = c.was_asked.result; work = c.in_ok-found.found.work })
+    c.in_ok-asked.asked.circuit c.in_ok-asked.asked.admit (tree_of c.method_of-method.result)
     c.in_ok-asked.ensures.asked (told_with c.args.reading.now.default c.in_ok-asked.asked.outputs c.in_ok-asked.asked.keep) refl
     (no_rows c.in_ok-asked.asked.keep.items (sym c.in_ok-asked.asked.keep.ok.0 ∙ eqb-true _ _ (sym c.is_empty.ensures ∙ c.if-not-is_empty.false)))
-    c.in_ok-asked.ensures.outputs c.was_asked.result c.limits_of-limits.result.effort.budget c.in_ok-found.found.answer c.in_ok-outcome.outcome
+    c.in_ok-asked.ensures.outputs c.limits_of-limits.result.effort.budget c.in_ok-found.found.answer c.in_ok-outcome.outcome
     (outcome_by c.method_of-method.result _ c.limits_of-limits.result.effort.budget c.in_ok-found.found.answer c.in_ok-found.ensures.answer)
     c.in_ok-found.ensures.text c.in_ok-outcome.ensures.report
     (rw c.strategy.ensures at c.in_ok-outcome.ensures.certified))
@@ -71,10 +72,11 @@ pub returns-clause-written : goal.returns-clause-written
 returns-clause-written g c =
     searched_written c.args.text.now c.args.reading.now c.args.search.now (is_some c.args.search.now.dump) (setting c.in_ok-asked.asked.circuit)
     (RunsPair (setting c.in_ok-asked.asked.circuit) (pair_in c.in_ok-found.found.answer)) c.in_ok-outcome.outcome
-    (certified c.args.text.now c.args.reading.now c.args.search.now c.in_ok-asked.asked.circuit c.in_ok-asked.asked.admit (tree_of c.method_of-method.result)
+    (certified c.args.text.now c.args.reading.now (record { search = c.args.search; was_asked = c.was_asked.result; work = c.in_ok-found.found.work })
+    c.in_ok-asked.asked.circuit c.in_ok-asked.asked.admit (tree_of c.method_of-method.result)
     c.in_ok-asked.ensures.asked (told_with c.args.reading.now.default c.in_ok-asked.asked.outputs c.in_ok-asked.asked.keep) refl
     (no_rows c.in_ok-asked.asked.keep.items (sym c.in_ok-asked.asked.keep.ok.0 ∙ eqb-true _ _ (sym c.is_empty.ensures ∙ c.if-not-is_empty.false)))
-    c.in_ok-asked.ensures.outputs c.was_asked.result c.limits_of-limits.result.effort.budget c.in_ok-found.found.answer c.in_ok-outcome.outcome
+    c.in_ok-asked.ensures.outputs c.limits_of-limits.result.effort.budget c.in_ok-found.found.answer c.in_ok-outcome.outcome
     (outcome_by c.method_of-method.result _ c.limits_of-limits.result.effort.budget c.in_ok-found.found.answer c.in_ok-found.ensures.answer)
     c.in_ok-found.ensures.text c.in_ok-outcome.ensures.report
     (rw c.strategy.ensures at c.in_ok-outcome.ensures.certified)) c.in_ok-outcome.ensures.dumped

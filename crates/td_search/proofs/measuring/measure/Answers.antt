@@ -5,14 +5,14 @@ use Rattle.td_search.specs.Problems.{problem_of}
 use Rattle.td_search.proofs.Bounded.{vectors_inside}
 use Rattle.td_search.proofs.measuring.measure.Goals as goal
 
-pub delay_of-requires-clause-first_fits : goal.delay_of-requires-clause-first_fits
-delay_of-requires-clause-first_fits c =
+pub delay_until-requires-clause-first_fits : goal.delay_until-requires-clause-first_fits
+delay_until-requires-clause-first_fits c =
     let given = c.args.problem.now in
     (vectors_inside (length given.circuit.now.netlist.inputs) c.args.cube.now c.in_ok-representative.representative
     (c.requires.within.0 ∙ (c.pins-pins.ensures.fit ∙ ap (λ n. 2 * n) given.held)) c.in_ok-representative.ensures.inside).0
 
-pub delay_of-requires-clause-second_fits : goal.delay_of-requires-clause-second_fits
-delay_of-requires-clause-second_fits c =
+pub delay_until-requires-clause-second_fits : goal.delay_until-requires-clause-second_fits
+delay_until-requires-clause-second_fits c =
     let given = c.args.problem.now in
     (vectors_inside (length given.circuit.now.netlist.inputs) c.args.cube.now c.in_ok-representative.representative
     (c.requires.within.0 ∙ (c.pins-pins.ensures.fit ∙ ap (λ n. 2 * n) given.held)) c.in_ok-representative.ensures.inside).1

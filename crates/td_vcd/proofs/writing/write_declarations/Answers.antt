@@ -2,18 +2,18 @@ use Rattle.std.proofs.Common.{arith, length, ◌≤◌}
 use Rattle.std.proofs.lemmas.Result.{err_from_is_err_and}
 use Rattle.td_text.proofs.Outputs.{SentTo-begins}
 use Rattle.td_nets.specs.Views.{name_of}
-use Rattle.td_nets.specs.WellFormed.{driven}
 use Rattle.td_vcd.specs.Text.{declaration}
+use Rattle.td_vcd.specs.Chosen.{names_of}
 use Rattle.td_vcd.proofs.Batches.{turn, space, whole, refused_batch, refused_growth}
 use Rattle.td_vcd.proofs.Steps.{numbered_step, numbered_end}
-use Rattle.td_vcd.proofs.Nets.{above_constants, below_nets, name_at, count_variables}
+use Rattle.td_vcd.proofs.Nets.{name_at, count_names}
 use Rattle.td_vcd.proofs.writing.write_declarations.Goals as goal
 
 pub name-requires-clause-constant : goal.name-requires-clause-constant
-name-requires-clause-constant g c = above_constants c.args.circuit.now c.args.nets.now c.requires c.loop-variable.variable c.loop-variable-test.true
+name-requires-clause-constant g c = (c.requires c.loop-variable.variable 0 c.loop-variable-test.true).above
 
 pub name-requires-clause-net : goal.name-requires-clause-net
-name-requires-clause-net g c = below_nets c.args.circuit.now c.args.nets.now c.requires c.loop-variable.variable c.loop-variable-test.true
+name-requires-clause-net g c = (c.requires c.loop-variable.variable 0 c.loop-variable-test.true).below
 
 pub loop-variable-init : goal.loop-variable-init
 loop-variable-init g c = SentTo-begins _ _
@@ -21,9 +21,9 @@ loop-variable-init g c = SentTo-begins _ _
 pub loop-variable-preserved : goal.loop-variable-preserved
 loop-variable-preserved g c =
     turn _ _ _ _ _ _ _ _ _ _ c.loop-variable.invariant c.in_ok-make_space.ensures.ok
-    (numbered_step declaration (driven c.args.circuit.now.netlist) c.loop-variable.variable (name_of c.name.result.now)
-    (let long = count_variables c.args.circuit.now c.args.nets.now c.requires in omega (arith, long, c.loop-variable-test.true))
-    (name_at c.args.circuit.now c.args.nets.now c.requires c.loop-variable.variable c.loop-variable-test.true (name_of c.name.result.now) (name_of c.name.result.now) c.name.ensures))
+    (numbered_step declaration (names_of c.args.circuit.now c.args.nets.now) c.loop-variable.variable (name_of c.name.result.now)
+    (let long = count_names c.args.circuit.now c.args.nets.now in omega (arith, long, c.loop-variable-test.true))
+    (name_at c.args.circuit.now c.args.nets.now c.loop-variable.variable (name_of c.name.result.now) c.loop-variable-test.true c.name.ensures))
     c.in_ok-declaration.ensures
 
 pub returns-in_err-make_space-clause-refused : goal.returns-in_err-make_space-clause-refused
@@ -38,6 +38,6 @@ returns-in_err-declaration-clause-refused g c =
 
 pub returns-clause-written : goal.returns-clause-written
 returns-clause-written g c =
-    let long = count_variables c.args.circuit.now c.args.nets.now c.requires in
-    let past : length (driven c.args.circuit.now.netlist) ≤ c.loop-variable.variable = omega (arith, long, c.loop-variable-test.false) in
-    whole _ _ _ _ _ c.loop-variable.invariant (numbered_end declaration (driven c.args.circuit.now.netlist) c.loop-variable.variable past)
+    let long = count_names c.args.circuit.now c.args.nets.now in
+    let past : length (names_of c.args.circuit.now c.args.nets.now) ≤ c.loop-variable.variable = omega (arith, long, c.loop-variable-test.false) in
+    whole _ _ _ _ _ c.loop-variable.invariant (numbered_end declaration (names_of c.args.circuit.now c.args.nets.now) c.loop-variable.variable past)

@@ -1,11 +1,9 @@
 use Rattle.std.proofs.Common.{arith, length, ◌≤◌}
 use Rattle.std.proofs.lemmas.Result.{err_from_is_err_and}
 use Rattle.td_text.proofs.Outputs.{SentTo-begins}
-use Rattle.td_run.specs.Waves.{waves_of}
-use Rattle.td_run.proofs.Turning.{length-waves_of}
 use Rattle.td_vcd.specs.Text.{start_line}
 use Rattle.td_vcd.proofs.Batches.{turn, space, whole, refused_batch, refused_growth}
-use Rattle.td_vcd.proofs.Steps.{numbered_step, numbered_end, wave_at}
+use Rattle.td_vcd.proofs.Steps.{numbered_end, start_step, waves_behind, count_behind}
 use Rattle.td_vcd.proofs.writing.write_starts.Goals as goal
 
 pub loop-variable-init : goal.loop-variable-init
@@ -14,10 +12,9 @@ loop-variable-init g c = SentTo-begins _ _
 pub loop-variable-preserved : goal.loop-variable-preserved
 loop-variable-preserved g c =
     turn _ _ _ _ _ _ _ _ _ _ c.loop-variable.invariant c.in_ok-make_space.ensures.ok
-    (numbered_step start_line (waves_of c.args.run.now.waves c.args.nets.now) c.loop-variable.variable c.wave.result.now
-    (let long = length-waves_of c.args.run.now.waves c.args.nets.now in omega (arith, long, c.loop-variable-test.true))
-    (wave_at c.args.run.now.waves c.args.nets.now c.loop-variable.variable c.wave.result.now c.loop-variable-test.true c.wave.ensures))
-    (rw c.start.ensures at c.in_ok-level.ensures)
+    (start_step c.args.waves.now c.loop-variable.variable c.index-waves-variable.result c.start.result c.loop-variable-test.true
+    c.index-waves-variable.is c.start.ensures)
+    c.in_ok-level.ensures
 
 pub returns-in_err-make_space-clause-refused : goal.returns-in_err-make_space-clause-refused
 returns-in_err-make_space-clause-refused g c =
@@ -31,6 +28,6 @@ returns-in_err-level-clause-refused g c =
 
 pub returns-clause-written : goal.returns-clause-written
 returns-clause-written g c =
-    let long = length-waves_of c.args.run.now.waves c.args.nets.now in
-    let past : length (waves_of c.args.run.now.waves c.args.nets.now) ≤ c.loop-variable.variable = omega (arith, long, c.loop-variable-test.false) in
-    whole _ _ _ _ _ c.loop-variable.invariant (numbered_end start_line (waves_of c.args.run.now.waves c.args.nets.now) c.loop-variable.variable past)
+    let long = count_behind c.args.waves.now in
+    let past : length (waves_behind c.args.waves.now) ≤ c.loop-variable.variable = omega (arith, long, c.loop-variable-test.false) in
+    whole _ _ _ _ _ c.loop-variable.invariant (numbered_end start_line (waves_behind c.args.waves.now) c.loop-variable.variable past)

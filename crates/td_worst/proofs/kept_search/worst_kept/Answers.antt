@@ -8,8 +8,8 @@ returns-then-effort-eq0-clause-answer g c = λ pair delay asked has. (rw c.pins-
 pub returns-then-effort-eq0-clause-edges : goal.returns-then-effort-eq0-clause-edges
 returns-then-effort-eq0-clause-edges g c = λ bound has. (rw c.pins-pins.ensures.pins at c.in_ok-high.ensures.edges) bound has
 
-pub shown-requires : goal.shown-requires
-shown-requires g c = record {
+pub shown-answer-requires : goal.shown-answer-requires
+shown-answer-requires g c = record {
   small = small_best (setting c.args.question.circuit.now) (record { admit = c.args.question.admit.now; keep = c.args.question.keep.now }) c.in-Ok.answered.best c.in_ok-high.high
       c.in-Ok.ensures.best (λ pair delay asked has. (rw c.pins-pins.ensures.pins at c.in_ok-high.ensures.sound) pair delay asked.admitted.pinned has)
       c.in_ok-high.ensures.small;
@@ -17,7 +17,7 @@ shown-requires g c = record {
 
 pub returns-in-Ok-clause-answer : goal.returns-in-Ok-clause-answer
 returns-in-Ok-clause-answer g c =
-    c.shown.ensures.answer (setting c.args.question.circuit.now) c.args.question.admit.now
+    c.shown-answer.ensures.answer (setting c.args.question.circuit.now) c.args.question.admit.now
     (record {
       sizes = record {
         inputs = c.gates-gates.ensures.numbering.well_formed.few_inputs;
@@ -37,10 +37,10 @@ returns-in-Ok-clause-answer g c =
     c.in-Ok.ensures.shown
 
 pub returns-in-Ok-clause-edges : goal.returns-in-Ok-clause-edges
-returns-in-Ok-clause-edges g c = λ bound has. c.shown.ensures.within bound ((rw c.pins-pins.ensures.pins at c.in_ok-high.ensures.edges) bound has)
+returns-in-Ok-clause-edges g c = λ bound has. c.shown-answer.ensures.within bound ((rw c.pins-pins.ensures.pins at c.in_ok-high.ensures.edges) bound has)
 
 pub returns-in-Ok-clause-time : goal.returns-in-Ok-clause-time
-returns-in-Ok-clause-time g c = c.shown.ensures.time c.args.limits.stop.now.can_be_set c.cause_of-cause.ensures
+returns-in-Ok-clause-time g c = c.shown-answer.ensures.time c.args.limits.stop.now.can_be_set c.cause_of-cause.ensures
 
 pub returns-in-Err-clause-answer : goal.returns-in-Err-clause-answer
 returns-in-Err-clause-answer g c = λ pair delay asked has. (rw c.pins-pins.ensures.pins at c.in_ok-high.ensures.sound) pair delay asked.admitted.pinned has

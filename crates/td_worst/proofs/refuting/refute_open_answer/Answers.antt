@@ -41,7 +41,7 @@ returns-in-Ok-Some-clause-time g c = rw c.with_steps.ensures.answer (c.refuted-a
 
 pub returns-in-Ok-None-clause-answer : goal.returns-in-Ok-None-clause-answer
 returns-in-Ok-None-clause-answer g c =
-    rw (c.of.ensures.answer, c.between.ensures) (reported_between (problem_of c.args.problem.now) c.args.budget _ c.search-found.result.1
+    rw (c.of.ensures.answer, c.between.ensures) (reported_between (problem_of c.args.problem.now) c.args.budget _ c.search-found.result.why
     (with_best (problem_of c.args.problem.now) c.args.budget c.args.known _ c.requires.known c.search-found.ensures.best)).0
 
 pub returns-in-Err-clause-answer : goal.returns-in-Err-clause-answer

@@ -10,5 +10,9 @@ returns-then-not-is_open-clause-time g c =
 
 pub returns-clause-edges : goal.returns-clause-edges
 returns-clause-edges g c = λ some.
-    stays_within (problem_by Lead c.args.question.circuit.now c.args.question.admit.now) c.bounded_by_edges-known.result c.refuted_further-shown.result.answer c.bounded_by_edges-known.ensures.edges
-    (sym c.is_open.ensures ∙ c.if-not-is_open.false) c.refuted_further-shown.ensures.narrower.high
+    stays_within (problem_by Lead c.args.question.circuit.now c.args.question.admit.now) c.bounded_by_edges-known.result c.refuted_told-shown.result.answer c.bounded_by_edges-known.ensures.edges
+    (sym c.is_open.ensures ∙ c.if-not-is_open.false) c.refuted_told-shown.ensures.narrower.high
+
+pub returns-clause-reported : goal.returns-clause-reported
+returns-clause-reported g c =
+    g.met.W.Watch.reported_both (problem_by Lead c.args.question.circuit.now c.args.question.admit.now) _ _ _ c.bounded.ensures.reported c.refuted_told-shown.ensures.reported

@@ -35,13 +35,13 @@ loop-moment-preserved c =
 
 pub greatest-requires : goal.greatest-requires
 greatest-requires c =
-    rw (c.outputs.ensures, c.deref.ensures.value, c.loop-moment.invariant.fits.latest)
+    rw (c.outputs.ensures, c.deref-2.ensures.value, c.loop-moment.invariant.fits.latest)
     (numbers-below (nets c.args.circuit.now) c.args.circuit.now.outputs _ c.gates-gates.ensures.numbering.outputs)
 
 pub returns-clause-delay : goal.returns-clause-delay
 returns-clause-delay c =
     let state : State = c.loop-moment.self in
-    let greatest_is = rw (c.outputs.ensures, c.deref.ensures.value) at c.greatest.ensures in
+    let greatest_is = rw (c.outputs.ensures, c.deref-2.ensures.value) at c.greatest.ensures in
     record {
       is = delay-is c.args.circuit.now c.args.pair.now c.gates-gates.ensures.numbering c.moments-moments.ensures.fit c.requires.first_fits c.requires.second_fits
           state.events.queue c.loop-moment.moment state.logic.levels.items state.events.whens.items state.latest.items (omega (arith, c.loop-moment-test.false))

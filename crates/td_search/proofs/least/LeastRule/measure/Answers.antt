@@ -5,14 +5,14 @@ use Rattle.td_search.specs.Problems.{problem_of}
 use Rattle.td_search.proofs.Bounded.{vectors_inside}
 use Rattle.td_search.proofs.least.LeastRule.measure.Goals as goal
 
-pub measure-requires-clause-first_fits : goal.measure-requires-clause-first_fits
-measure-requires-clause-first_fits g c =
+pub measure_until-requires-clause-first_fits : goal.measure_until-requires-clause-first_fits
+measure_until-requires-clause-first_fits g c =
     let given = c.args.problem.now in
     (vectors_inside (length given.circuit.now.netlist.inputs) c.args.cube.now c.in_ok-pair.pair
     (c.requires.within.0 ∙ (c.pins-pins.ensures.fit ∙ ap (λ n. 2 * n) given.held)) c.in_ok-pair.ensures.inside).0
 
-pub measure-requires-clause-second_fits : goal.measure-requires-clause-second_fits
-measure-requires-clause-second_fits g c =
+pub measure_until-requires-clause-second_fits : goal.measure_until-requires-clause-second_fits
+measure_until-requires-clause-second_fits g c =
     let given = c.args.problem.now in
     (vectors_inside (length given.circuit.now.netlist.inputs) c.args.cube.now c.in_ok-pair.pair
     (c.requires.within.0 ∙ (c.pins-pins.ensures.fit ∙ ap (λ n. 2 * n) given.held)) c.in_ok-pair.ensures.inside).1

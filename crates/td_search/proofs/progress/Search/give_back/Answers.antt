@@ -8,4 +8,5 @@ returns-clause-search c =
       released_or (problem_of c.args.problem.now) s.book.budget s.book c.release-opened.new.self s.best.time s.best.pair s.bounds.items c.requires.0 c.args.lease
           c.release-opened.result _ (λ y h. h.1.0) c.release-opened.ensures,
       c.requires.1,
+      c.requires.2,
     )

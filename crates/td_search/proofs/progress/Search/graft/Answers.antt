@@ -25,4 +25,5 @@ returns-in-Ok-graft-clause-search c =
           (grafts (problem_of c.args.problem.now) s.book.budget s.book c.graft.new.self s.best.time s.best.pair s.bounds.items c.requires.search.0 c.args.lease c.args.subtree
           c.in-Ok-graft.left.items findings c.requires.states c.requires.found (recursion_from_All _ findings c.requires.usable) c.in-Ok-graft.ensures.ok),
       record { no_nodes = space.no_nodes; no_lines = space.no_lines; for_nodes = omega arith; for_lines = omega arith },
+      c.requires.search.2,
     )

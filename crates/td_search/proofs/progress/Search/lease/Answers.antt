@@ -8,6 +8,7 @@ returns-clause-search c =
       leased_or (problem_of c.args.problem.now) s.book.budget s.book c.claim_id.new.self s.best.time s.best.pair s.bounds.items c.requires.search.0 c.args.number c.claim_id.result
           c.claim_id.ensures.ok c.claim_id.ensures.err,
       c.requires.search.1,
+      c.requires.search.2,
     )
 
 pub returns-clause-within : goal.returns-clause-within

@@ -17,6 +17,6 @@ returns-clause-search c =
       subst (λ (b : Board). IsSearch asked budget b best.time best.pair c.push_reserved.new.self.items) (sym c.requires.setup.book)
           (subst (λ (l : List ℕ). IsSearch asked budget (opening c.args.problem.now.admit.now.pins 1 budget) best.time best.pair l) (sym items)
           (knows c.args.problem.now.strategy c.args.problem.now.circuit.now c.gates-numbering.ensures.numbering c.moments-moments.ensures.fit c.args.problem.now.admit.now budget c.requires.modest best.pair best.time root
-          c.requires.best.0 c.requires.root c.requires.small c.requires.best.1)),
+          c.requires.best c.requires.root c.requires.small)),
       subst (λ (l : List ℕ). HasSpace c.args.self.space (length l)) (sym items) c.requires.setup.space,
     )
