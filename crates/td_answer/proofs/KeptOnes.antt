@@ -1,6 +1,6 @@
 -- From the answer of a search for the pairs that keep conditions to the sentences.
-use Rattle.std.proofs.Common.{◌≡◌, ◌∙◌, ℕ, ◌≤◌, ◌+◌, List, [], ◌∷◌, ◌++◌, length, refl, sym, ap, subst, arith, Bool, true, false, append_assoc, inl, inr}
-use Rattle.std.specs.Prelude.{Option, Some, None, IfSome, min, is_some, option_map}
+use Rattle.std.proofs.Common.{◌≡◌, ◌∙◌, ℕ, ◌≤◌, ◌+◌, List, [], ◌∷◌, ◌++◌, length, refl, sym, ap, subst, arith, append_assoc, inl, inr}
+use Rattle.std.specs.Prelude.{Option, Some, None, IfSome, min, option_map}
 use Rattle.std.specs.List.{Contains}
 use Rattle.td_reading.specs.declared.reading.Reading.{Reading}
 use Rattle.td_source.specs.Reads.{AreOutputsOf}
@@ -14,7 +14,7 @@ use Rattle.td_certificate.specs.declared.certificate.Claim.{Claim}
 use Rattle.td_certificate.specs.declared.tree.Node.{Node}
 use Rattle.td_certificate.specs.Lengths.{HaveFew}
 use Rattle.td_certificate.specs.Spelling.{AreConditions, AreTerms, HasSpelling}
-use Rattle.td_search.specs.Problems.{has_delay, problem_by}
+use Rattle.td_search.specs.Problems.{problem_by}
 use Rattle.td_search.specs.declared.strategy.Strategy.TheVariants.{Lead}
 use Rattle.td_worst.specs.Kept.{certificate_with, claim_of, claim_to, IsCertifiedAmong as IsCertifiedWith, IsWorstAmong, LiesBetweenAmong}
 use Rattle.td_request.specs.declared.request.Search.{Search}

@@ -1,5 +1,5 @@
 -- What is known of an output before it is searched is true of it alone.
-use Rattle.std.proofs.Common.{◌≡◌, ◌≤◌, ◌<◌, ◌*◌, ℕ, zero, suc, ◌∙◌, Bool, false, true, List, [], ◌∷◌, length, map, max, refl, sym, ap, subst, arith, Option, Some, None}
+use Rattle.std.proofs.Common.{◌≡◌, ◌≤◌, ◌<◌, ◌*◌, ℕ, zero, suc, ◌∙◌, Bool, false, true, List, [], ◌∷◌, length, map, refl, sym, ap, subst, arith, Option, Some, None}
 use Rattle.std.specs.Prelude.{slice_get, unwrap_or, IfSome}
 use Rattle.std.proofs.lemmas.Option.{none-some}
 use Rattle.td_gates.specs.Table.{level_from}
@@ -34,7 +34,7 @@ use Rattle.td_answer.specs.Outlooks.{IsSample, IsLow, IsTrueLow, IsTrueOutlook}
 use Rattle.td_refute.specs.Kept.{IsBoundAmong}
 use Rattle.td_lines.specs.declared.line.Found.TheVariants as found
 use Rattle.td_answer.specs.Findings.{IsTrueFound}
-use Rattle.td_answer.specs.Tables.{IsTrueBound, SomeHas}
+use Rattle.td_answer.specs.Tables.{IsTrueBound}
 use Rattle.td_answer.specs.declared.outlook.Outlook.{Outlook}
 
 only : (a : Option ℕ) → a ≡ greater a (Some 0)

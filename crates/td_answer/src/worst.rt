@@ -99,7 +99,13 @@ fn reported(
     ensures { IfOk result (AddsLines (TellsPair ended.entry.search.now.shown (setting circuit.now) (pair_in answer.now)) (head_lines circuit.now.netlist ++ answer_lines ended.entry answer.now)) }
 {
     let mut report = report_of(alloc, circuit, answer, ended)?;
-    push_run(alloc, &mut report, circuit, pair_in(answer), ended.search.shown)?;
+    push_run(
+        alloc,
+        &mut report,
+        circuit,
+        pair_in(answer),
+        ended.search.shown,
+    )?;
     Ok(report)
 }
 
@@ -129,7 +135,9 @@ fn certificate_of(
 {
     let Telling { told, strategy } = telling;
     let Found {
-        answer, support, ..
+        answer,
+        support,
+        ..
     } = found;
     match answer {
         Answer::Exact { time, pair, tree } => {

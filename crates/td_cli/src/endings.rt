@@ -131,10 +131,7 @@ fn more_time(text: &mut Text, search: &Search<'_>) -> Result<(), AllocError> {
         help(text, b"more --seconds, or none")?;
     }
     if search.effort.workers == 1 {
-        help(
-            text,
-            b"--workers N, as many as the machine has processors",
-        )?;
+        help(text, b"--workers N, as many as the machine has processors")?;
     }
     Ok(())
 }

@@ -1,4 +1,4 @@
-use Rattle.std.proofs.Common.{◌≡◌, ◌<◌, ◌∙◌, List, length, map, get_or, sym, ap, subst, arith, None, Some, slice_get}
+use Rattle.std.proofs.Common.{◌≡◌, ◌<◌, ◌∙◌, List, length, get_or, sym, ap, subst, arith, None, Some, slice_get}
 use Rattle.std.proofs.lemmas.List.{length-map}
 use Rattle.std.proofs.lemmas.Slice.Zip.{AllZip-long}
 use Rattle.td_gates.proofs.Places.{slice_get-within}
@@ -6,7 +6,6 @@ use Rattle.td_nets.specs.Netlist.{Name}
 use Rattle.td_nets.specs.Views.{name_of}
 use Rattle.td_circuit.specs.Numbering.{Numbered, setting}
 use Rattle.td_source.specs.Each.{alone}
-use Rattle.td_search.specs.Problems.{Problem}
 use Rattle.td_answer.specs.Columns.{pairs_of}
 use Rattle.td_answer.specs.Outlooks.{IsTrueOutlook}
 use Rattle.td_answer.specs.declared.outlook.Outlook.{Outlook}

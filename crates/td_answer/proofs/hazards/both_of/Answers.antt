@@ -1,4 +1,4 @@
-use Rattle.std.proofs.Common.{◌≡◌, ◌<◌, ◌∙◌, List, length, map, refl, sym, ap, subst, arith, Some, slice_get, true, false}
+use Rattle.std.proofs.Common.{◌≡◌, ◌<◌, ◌∙◌, List, length, refl, sym, ap, subst, arith, Some, slice_get, true, false}
 use Rattle.std.proofs.lemmas.List.{length-map}
 use Rattle.td_gates.proofs.Places.{some-same}
 use Rattle.td_nets.specs.Netlist.{Name}

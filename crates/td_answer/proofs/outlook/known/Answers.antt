@@ -1,4 +1,3 @@
-use Rattle.std.proofs.Common.{◌≡◌, ◌*◌, length}
 use Rattle.td_answer.proofs.Outlooks.{pins_long}
 use Rattle.td_answer.proofs.outlook.known.Goals as goal
 

@@ -1,4 +1,4 @@
-use Rattle.std.proofs.Common.{◌≡◌, ◌<◌, length, get_or, refl, arith}
+use Rattle.std.proofs.Common.{◌<◌, length, get_or, refl, arith}
 use Rattle.td_gates.proofs.Places.{get-slice_get}
 use Rattle.td_circuit.specs.Numbering.{setting}
 use Rattle.td_source.specs.Each.{alone}
