@@ -53,7 +53,9 @@ def printed(command, folder, environment):
 
 
 def try_json(tested, command, ran, folder, environment):
-    """A case: the report of a command that ran, as JSON."""
+    """A case: the report of a command that ran, as JSON, which says as much as --verbose."""
+    if command.startswith("tdelay worst ") and "--verbose" not in command:
+        ran, _ = printed(f"{command} --verbose", folder, environment)
     again, _ = printed(f"{command} --json", folder, environment)
     wanted = (ran.status, ran.err, reports.as_json(ran.out.decode()))
     said = reports.lines_of_json(again.out.decode(errors="replace"))

@@ -75,7 +75,7 @@ def accepted_time(report):
 
 # What the lines of a report are by their keys: one number, a claim, several numbers, or a row of
 # fields of which those at these places are numbers. Those of LISTED come several times; all others are texts.
-NUMBER = "time a t m e n earliest exact nodes flips inputs outputs gates defaulted depth".split()
+NUMBER = "time a t m e n earliest exact nodes units flips inputs outputs gates defaulted depth".split()
 CLAIMS = "accepted unchecked".split()
 NUMBERS = "between delay at".split()
 ROWS = {"last": {1}, "change": {0, 5}, "input": {0}, "output": {0}, "refused": {0, 3}}

@@ -17,22 +17,22 @@ What `--json` prints: one object on one line, with the keys of the report's line
   $ tdelay bound $NETLISTS/inverter.v --json
   {"proved":true,"unit":"1 ns","defaulted":0,"a":3,"t":null,"m":3}
   $ tdelay worst $NETLISTS/hazard.v --path --cert hazard.cert --json
-  {"proved":true,"unit":"1 ns","defaulted":0,"exact":5,"from":"000","to":"101","nodes":9,"change":[[0,"s","0","1","input"],[3,"n","1","0","not",3],[4,"q","1","0","and",1],[5,"y","1","0","or",1]]}
+  {"proved":true,"unit":"1 ns","defaulted":0,"exact":5,"from":"000","to":"101","nodes":9,"units":0,"change":[[0,"s","0","1","input"],[3,"n","1","0","not",3],[4,"q","1","0","and",1],[5,"y","1","0","or",1]]}
   $ tdelay worst $NETLISTS/adder_8.v --strategy least --budget 20 --json
-  {"proved":true,"unit":"1 ns","defaulted":0,"between":[45,53],"cause":"budget","from":"00000000000000000","to":"00000000111111111","nodes":20}
+  {"proved":true,"unit":"1 ns","defaulted":0,"between":[45,53],"cause":"budget","from":"00000000000000000","to":"00000000111111111","nodes":20,"units":0}
   [3]
   $ tdelay check $NETLISTS/hazard.v hazard.cert --json
   {"proved":true,"accepted":5}
   $ tdelay worst $NETLISTS/inverter.v --flips 0 --at 2 --cert still.cert --json
-  {"proved":true,"unit":"1 ns","defaulted":0,"exact":0,"from":"0","to":"0","nodes":7}
+  {"proved":true,"unit":"1 ns","defaulted":0,"exact":0,"from":"0","to":"0","nodes":7,"units":0}
   $ tdelay check $NETLISTS/inverter.v still.cert --json
   {"proved":true,"accepted":0,"first":".","second":".","hold":".","flips":0,"at":[2]}
   $ tdelay parts $NETLISTS/c17.v --parts 2 --hold ==... --flips 3 --at 0,1,0,0,0 --json
   {"proved":true,"parts":[["--first","0....","--second",".....","--hold","==...","--flips","3","--at","0,1,0,0,0"],["--first","1....","--second",".....","--hold","==...","--flips","3","--at","0,1,0,0,0"]]}
   $ tdelay worst $NETLISTS/c17.v --first 0.... --cert 1.cert --json
-  {"proved":true,"unit":"1 ns","defaulted":6,"exact":3,"from":"00000","to":"11111","nodes":1}
+  {"proved":true,"unit":"1 ns","defaulted":6,"exact":3,"from":"00000","to":"11111","nodes":1,"units":0}
   $ tdelay worst $NETLISTS/c17.v --first 1.... --cert 2.cert --json
-  {"proved":true,"unit":"1 ns","defaulted":6,"exact":3,"from":"10000","to":"01111","nodes":1}
+  {"proved":true,"unit":"1 ns","defaulted":6,"exact":3,"from":"10000","to":"01111","nodes":1,"units":0}
   $ tdelay join $NETLISTS/c17.v 1.cert 2.cert --no-check --json
   {"proved":true,"unit":"1 ns","defaulted":6,"unchecked":3,"from":"00000","to":"11111","nodes":3}
   $ tdelay join $NETLISTS/c17.v 1.cert --first 0.... --json
@@ -75,7 +75,7 @@ where they look like numbers or have a space, a quote or a backslash.
   $ tdelay path names.v 000 101 --output '\y" [0]' --json
   {"proved":true,"unit":"1 ns","defaulted":1,"last":[["\\y\" [0]",null]]}
   $ tdelay worst names.v --first 0.. --second 1.. --json
-  {"proved":true,"unit":"1 ns","defaulted":1,"exact":3,"from":"000","to":"111","nodes":1}
+  {"proved":true,"unit":"1 ns","defaulted":1,"exact":3,"from":"000","to":"111","nodes":1,"units":0}
 
 A netlist without inputs, and one without gates.
 
@@ -85,7 +85,7 @@ A netlist without inputs, and one without gates.
   $ tdelay sim one.v none none --json
   {"proved":true,"unit":"1 ns","defaulted":0,"last":[["y",null]],"time":0}
   $ tdelay worst one.v --json
-  {"proved":true,"unit":"1 ns","defaulted":0,"exact":0,"from":"none","to":"none","nodes":1}
+  {"proved":true,"unit":"1 ns","defaulted":0,"exact":0,"from":"none","to":"none","nodes":1,"units":0}
   $ tdelay parts one.v --parts 2 --json
   {"proved":true,"parts":[["--first","none","--second","none"]]}
   $ printf "module wire_only(a); input a; endmodule" > bare.v
@@ -102,7 +102,7 @@ Files are written as without it. One that goes to standard output is alone there
   $ tdelay sim $NETLISTS/inverter.v 0 1 --vcd - --json | cmp - inverter.vcd
   $ tdelay worst $NETLISTS/hazard.v --cert - --json | cmp - hazard.cert
   $ tdelay worst $NETLISTS/adder_8.v --strategy least --budget 20 --cert - --json
-  {"proved":true,"unit":"1 ns","defaulted":0,"between":[45,53],"cause":"budget","from":"00000000000000000","to":"00000000111111111","nodes":20}
+  {"proved":true,"unit":"1 ns","defaulted":0,"between":[45,53],"cause":"budget","from":"00000000000000000","to":"00000000111111111","nodes":20,"units":0}
   [3]
 
 Help and the version are no reports.

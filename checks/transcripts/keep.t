@@ -151,7 +151,7 @@ A search that is cut short before it has a pair knows an upper figure alone.
   cause budget
   [3]
   $ tdelay worst hazard.v --keep y=11 --budget 0 --json
-  {"proved":true,"unit":"1 ns","defaulted":0,"between":[null,5],"cause":"budget"}
+  {"proved":true,"unit":"1 ns","defaulted":0,"between":[null,5],"cause":"budget","units":0}
   [3]
 
 Of each output by itself.

@@ -11,7 +11,7 @@ What ends a search before it is done: a file, by `--stop`, and the clock, by `--
   nodes 0
   [3]
   $ tdelay worst $NETLISTS/adder_8.v --stop there --json
-  {"proved":true,"unit":"1 ns","defaulted":0,"between":[10,45],"cause":"stop","from":"00000000000000000","to":"11111111111111111","nodes":0}
+  {"proved":true,"unit":"1 ns","defaulted":0,"between":[10,45],"cause":"stop","from":"00000000000000000","to":"11111111111111111","nodes":0,"units":0}
   [3]
   $ tdelay worst $NETLISTS/adder_8.v --stop there --hints
   unit 1 ns
@@ -215,3 +215,90 @@ The file is neither read nor written, so it may be one of the others. Only `wors
   error: a value is required for '--stop <FILE>' but none was supplied
   $ tdelay worst $NETLISTS/c17.v --stop there --stop there 2>&1 | head -1
   error: the argument '--stop <FILE>' cannot be used multiple times
+
+A search that has nothing more to try ends for its effort: `refute` can't follow a run through a
+parity gate of more than 12 inputs. The default goes on with a tree, of some 200,000 nodes.
+
+  $ cat > wide.v << END
+  > module wide(a, b, c, d, e, f, g, h, i, j, k, l, m, s, y);
+  >   input a, b, c, d, e, f, g, h, i, j, k, l, m, s;
+  >   output y;
+  >   xor #9 g1(w, a, b, c, d, e, f, g, h, i, j, k, l, m);
+  >   not #1 g2(n, s);
+  >   and #1 g3(p, w, s);
+  >   and #1 g4(y, p, n);
+  > endmodule
+  > END
+  $ tdelay worst wide.v --strategy refute
+  unit 1 ns
+  defaulted 0
+  between 0 11
+  cause effort
+  from 00000000000000
+  to 11111111111111
+  nodes 0
+  [3]
+  $ tdelay worst wide.v --strategy refute --json
+  {"proved":true,"unit":"1 ns","defaulted":0,"between":[0,11],"cause":"effort","from":"00000000000000","to":"11111111111111","nodes":0,"units":0}
+  [3]
+  $ tdelay worst wide.v --strategy refute --hints
+  unit 1 ns
+  defaulted 0
+  between 0 11
+  cause effort
+  from 00000000000000
+  to 11111111111111
+  nodes 0
+  the search has nothing more to try; both figures are true
+    help: --strategy lead, which goes on where pairs keep no conditions
+    help: or fewer pairs: --first, --second, --hold, --flips; or `tdelay parts`
+  [3]
+  $ tdelay worst wide.v
+  unit 1 ns
+  defaulted 0
+  between 0 11
+  cause effort
+  from 00000000000000
+  to 11111111111111
+  nodes 218000
+  [3]
+  $ tdelay worst wide.v --budget 100 | grep cause
+  cause budget
+
+With `--verbose` an answer also tells how many units of work searches by spans took.
+
+  $ tdelay worst $NETLISTS/hazard.v --strategy refute --verbose
+  unit 1 ns
+  defaulted 0
+  exact 5
+  from 001
+  to 101
+  nodes 1
+  units 0
+  $ tdelay worst $NETLISTS/mult_8.v --strategy refute --budget 100 --verbose
+  unit 1 ns
+  defaulted 0
+  between 117 121
+  cause budget
+  from 0001010011110001
+  to 1100100111110011
+  nodes 0
+  units 114
+  [3]
+  $ tdelay worst $NETLISTS/c17.v --budget 0 --verbose
+  unit 1 ns
+  defaulted 6
+  between 3 3
+  cause budget
+  from 00000
+  to 11111
+  nodes 0
+  units 0
+  [3]
+
+A search that lacks memory ends with what it has.
+
+  $ (ulimit -v 20000; tdelay worst $NETLISTS/mult_8.v --strategy least --budget 3000000 > said; echo $?)
+  3
+  $ grep cause said
+  cause memory
