@@ -2,7 +2,7 @@
 
 use crate::advice::Advice;
 use td_request::{Command, Request};
-use td_stop::{Signal, Stop};
+use td_stop::Stop;
 
 /// What ends a run before it is done: that these seconds have passed, or that a file of this name
 /// is there.
@@ -14,19 +14,30 @@ pub(crate) struct Deadline<'a, 'w, A> {
 }
 
 impl<'a, 'w, A: Advice> Deadline<'a, 'w, A> {
-    /// What ends the run of a request, if something does.
-    pub(crate) fn of(request: &Request<'w>, advice: &'a A) -> Option<Self> {
-        let Command::Worst(search) = &request.command else {
-            return None;
+    /// What ends the run of a request.
+    pub(crate) fn of(request: &Request<'w>, advice: &'a A) -> Self {
+        let (seconds, file) = match &request.command {
+            Command::Worst(search) => (search.effort.seconds, search.stop),
+            _ => (None, None),
         };
-        if search.effort.seconds.is_none() && search.stop.is_none() {
-            return None;
-        }
-        Some(Deadline {
-            seconds: seconds_of(search.effort.seconds),
-            file: search.stop,
+        Deadline {
+            seconds: seconds_of(seconds),
+            file,
             advice,
-        })
+        }
+    }
+
+    /// Whether something may end the run.
+    pub(crate) fn can_come(&self) -> bool {
+        self.seconds.is_some() || self.file.is_some()
+    }
+
+    /// Whether somebody asks for the end now: the file is there.
+    pub(crate) fn is_given(&self) -> bool {
+        match self.file {
+            Some(name) => self.advice.is_there(name),
+            None => false,
+        }
     }
 
     /// The stop of the run, set where the run ends before it begins.
@@ -46,14 +57,5 @@ fn seconds_of(given: Option<u64>) -> Option<u32> {
     match given {
         Some(seconds) => Some(u32::try_from(seconds).unwrap_or(u32::MAX)),
         None => None,
-    }
-}
-
-impl<'a, 'w, A: Advice> Signal for Deadline<'a, 'w, A> {
-    fn is_given(&self) -> bool {
-        match self.file {
-            Some(name) => self.advice.is_there(name),
-            None => false,
-        }
     }
 }

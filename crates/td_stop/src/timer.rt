@@ -9,8 +9,8 @@ const LOOK: u64 = 100;
 
 /// Who may ask that a search ends, beside the clock.
 pub trait Signal {
-    /// Whether it is asked now.
-    fn is_given(&self) -> bool;
+    /// Whether it is asked now. A timer looks each time that it looks at the clock.
+    fn is_given(&mut self) -> bool;
 }
 
 /// A timer, which one thread runs and another ends. Nothing is promised of when a thread goes on.
@@ -41,7 +41,7 @@ impl Timer {
         &self,
         rt: &R,
         seconds: Option<u32>,
-        signal: &S,
+        signal: &mut S,
         stop: &Stop,
     ) {
         let Ok(began) = Instant::now(rt) else {
