@@ -297,6 +297,7 @@ pub(crate) fn table<'n, 'w, 'a, W: TableWatch, R: Threads + Wait + Sync>(
         keep,
         ..
     } = question_of(alloc, text, reading, &search.question)?;
+    stop.gauge.end_reading();
     let mut report = begun(alloc, &circuit)?;
     let outlooks = outlooks(alloc, &circuit, &admit)?;
     let mut outputs = EachOutput::of(alloc, circuit)?;

@@ -242,6 +242,7 @@ pub(crate) fn worst<'n, 'w, W: Watch, R: Threads + Wait + Sync>(
         ⊎ ((asked : Problem) × IsAsked text.now reading.now search.now.question asked.setting asked.admit × W.reported asked watch.old watch.new) }
 {
     let asked = question_of(alloc, text, reading, &search.question)?;
+    stop.gauge.end_reading();
     if !asked.keep.is_empty() {
         return worst_kept(rt, alloc, asked, text, reading, search, stop);
     }

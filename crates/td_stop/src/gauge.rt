@@ -1,22 +1,35 @@
-//! How far a search by spans has come.
+//! How far a run has come.
 
-use std::sync::atomic::{AtomicU64, Ordering};
+use std::sync::atomic::{AtomicBool, AtomicU64, Ordering};
 
-/// How far a search by spans has come, for who waits for it. Threads share it by `&`. Nothing is
-/// promised of it, so it may be shown, and decides nothing.
+/// How far a run has come, for who waits for it: whether the netlist is read, and how far a search
+/// by spans is. Threads share it by `&`. Nothing is promised of it, so it may be shown, and may
+/// decide when a search ends, but not what it answers.
 #[derive(Drop)]
 pub struct Gauge {
+    is_read: AtomicBool,
     units: AtomicU64,
     moment: AtomicU64,
 }
 
 impl Gauge {
-    /// That of a search that has done nothing yet.
+    /// That of a run that has done nothing yet.
     pub fn new() -> Gauge {
         Gauge {
+            is_read: AtomicBool::new(false),
             units: AtomicU64::new(0),
             moment: AtomicU64::new(0),
         }
+    }
+
+    /// Tells that the netlist is read.
+    pub fn end_reading(&self) {
+        self.is_read.store(true, Ordering::SeqCst);
+    }
+
+    /// Whether the netlist is read.
+    pub fn is_read(&self) -> bool {
+        self.is_read.load(Ordering::SeqCst)
     }
 
     /// Tells that more units of work are done.

@@ -55,7 +55,14 @@ fn gauge_adds_up(rt: HostRuntime) -> Result<(), Fail> {
 #[test]
 fn timer_sets_a_stop(rt: HostRuntime) -> Result<(), Fail> {
     let stop = Stop::new();
-    Timer::new().run(&rt, Some(0), &mut Flag { flag: &AtomicBool::new(false) }, &stop);
+    Timer::new().run(
+        &rt,
+        Some(0),
+        &mut Flag {
+            flag: &AtomicBool::new(false),
+        },
+        &stop,
+    );
     assert!(rt; stop.is_set() && !stop.was_asked());
     Ok(())
 }
@@ -63,7 +70,14 @@ fn timer_sets_a_stop(rt: HostRuntime) -> Result<(), Fail> {
 #[test]
 fn signal_sets_a_stop(rt: HostRuntime) -> Result<(), Fail> {
     let stop = Stop::new();
-    Timer::new().run(&rt, None, &mut Flag { flag: &AtomicBool::new(true) }, &stop);
+    Timer::new().run(
+        &rt,
+        None,
+        &mut Flag {
+            flag: &AtomicBool::new(true),
+        },
+        &stop,
+    );
     assert!(rt; stop.is_set() && stop.was_asked());
     Ok(())
 }
@@ -88,7 +102,14 @@ fn timer_that_was_ended_sets_none(rt: HostRuntime) -> Result<(), Fail> {
     let timer = Timer::new();
     thread::join(
         &rt,
-        || timer.run(&rt, Some(1_000_000), &mut Flag { flag: &AtomicBool::new(false) }, &stop),
+        || timer.run(
+            &rt,
+            Some(1_000_000),
+            &mut Flag {
+                flag: &AtomicBool::new(false),
+            },
+            &stop,
+        ),
         || timer.end(&rt),
     );
     assert!(rt; !stop.is_set());
