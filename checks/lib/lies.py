@@ -131,6 +131,14 @@ LIES = {
             """$R "$@" | awk '$1 == "between" && $3 > 1 { $3 -= 1 } 1'; exit ${PIPESTATUS[0]}""",
         ),
     },
+    "stops": {
+        "it goes on": where(
+            "doubling_26.v --budget", 'ulimit -t 6; exec $R "${@/#stop/gone}"'
+        ),
+        "no certificate of what was found": where(
+            "--stop stop", '$R "$@"; status=$?; rm -f cert; exit $status'
+        ),
+    },
     "strategies": {"a time that is one less": where("lead", MORE.format(key="exact", by=-1))},
     "swaps": {"a place of another reading": PLACED_BEFORE},
     "tables": {

@@ -1,10 +1,12 @@
-"""A table of searches that are ended early, by the clock and by a file. On a busy machine the
-seconds of the processor say more than those of the clock.
+"""A table of searches that are ended early, by the clock and by a file, alone and beside busy
+processes.
 """
 
+import contextlib
 import os
 import random
 import re
+import subprocess
 import threading
 
 from . import measuring, reports, running
@@ -28,8 +30,9 @@ SLOW = [
     ("booth8", "--each --changes --figures"),
 ]
 # The seconds of a run; those of a longer one; how many runs are ended by a file, within how many
-# seconds.
+# seconds; beside how many busy processes.
 SECONDS, LONGER, STOPPED, WITHIN = (1, 2, 5), 20, 2, 5
+CROWDS = (0, 4)
 # A row of a table, with its columns of changes.
 ROW = r"(?m)^each (\S+) (exact \d+|between \d+ \d+)(.*)$"
 BUDGET = ["--budget", "10000000"]
@@ -53,12 +56,26 @@ def is_within(report, longer):
     return bool(same) and all(reports.agree(ours[it], theirs[it]) for it in same)
 
 
-def verdict(table, path, certificate, report):
-    """Whether `check` accepts what the certificate of an answer claims, and what it says."""
+@contextlib.contextmanager
+def busy(count):
+    """So many processes that do nothing but work, to be used by `with`."""
+    crowd = [
+        subprocess.Popen(["sh", "-c", "while :; do :; done"])  # pylint: disable=consider-using-with
+        for _ in range(count)
+    ]
+    try:
+        yield
+    finally:
+        for process in crowd:
+            process.kill()
+            process.wait()
+
+
+def is_accepted(table, path, certificate, report):
+    """Whether `check` accepts what the certificate of an answer claims."""
     checked = measuring.measured([table.asked.programs[0], "check", path, certificate], 600)
     said = (checked.report.splitlines() or [checked.said.strip()])[0]
-    size = os.path.getsize(certificate) if os.path.exists(certificate) else 0
-    return said == f"accepted {claimed(report)}", f"{said}, {number(size / 1024)} kB"
+    return said == f"accepted {claimed(report)}"
 
 
 def ended(table, path, words, moment):
@@ -76,40 +93,41 @@ def ended(table, path, words, moment):
         timer.cancel()
 
 
-def row(table, name, options, path, moment, longer):
-    """A row: a search that is ended at a moment, beside one that had more time."""
+def lateness(table, name, options, path, moment, longer):
+    """How long after a moment a search ends, in seconds. What it answers has to lie within the
+    answer of one that had more time, and its certificate is accepted."""
     words, certificate = [*options.split(), *BUDGET], table.certificate(path)
     is_table = "--each" in words
     running.remove(table.folder, os.path.basename(certificate))
     if not is_table:
         words += ["--cert", certificate, "--cert-between"]
     done = ended(table, path, words, moment)
-    late = done.cost.clock - moment
-    how = str(moment) if isinstance(moment, int) else f"{moment:.2f}, a file"
-    fits = done.ended and is_within(done.report, longer.report)
-    if is_table:
-        is_accepted, said, answer = True, "-", f"{len(ranges_of(done.report))} figures"
-    else:
-        is_accepted, said = verdict(table, path, certificate, done.report)
-        answer = f"`{claimed(done.report)}`"
-    table.add(f"`{name}`", options, how, number(late, 2) if late > 0 else "before",
-              number(done.cost.processor, 2), answer if done.ended else "did not end",
-              "yes" if fits else "no", said)  # fmt: skip
-    if not (fits and is_accepted):
-        table.faults.append(f"{name} {options} {how}: {done.report[:300]} {done.said} {said}")
+    if not (done.ended and is_within(done.report, longer.report)):
+        table.faults.append(f"{name} {options} {moment}: {done.report[:300]} {done.said}")
+    elif not (is_table or is_accepted(table, path, certificate, done.report)):
+        table.faults.append(f"{name} {options} {moment}: the certificate isn't accepted")
+    return done.cost.clock - moment
+
+
+def row(table, name, options, path, draw):
+    """A row: how long after its moments a search ends at most, alone and beside busy processes."""
+    read = measuring.measured([table.asked.programs[0], "info", path], table.asked.seconds)
+    longer = ended(table, path, [*options.split(), *BUDGET], LONGER)
+    latest = []
+    for count in CROWDS:
+        with busy(count):
+            for moments in (SECONDS, [WITHIN * draw.random() for _ in range(STOPPED)]):
+                late = (lateness(table, name, options, path, it, longer) for it in moments)
+                latest.append(number(max(0, *late), 2))
+    table.add(f"`{name}`", options, number(read.cost.clock, 2), *latest)
 
 
 def stops(table):
-    """Searches that are ended early: how long after, whether what they answer is within the answer
-    of a longer run, and whether their certificate is accepted.
-    """
-    table.head("Netlist", "Options", "Ended after, s", "Later, s", "Processor, s", "Answer",
-               "Within", "`check`")  # fmt: skip
+    """Searches that are ended early: how long after."""
+    table.head("Netlist", "Options", "Read, s", "`--seconds`", "`--stop`", "busy `--seconds`",
+               "busy `--stop`")  # fmt: skip
     draw = random.Random(1)
     for name, options in SLOW:
         path = table.path(name)
-        if path is None:
-            continue
-        longer = ended(table, path, [*options.split(), *BUDGET], LONGER)
-        for moment in [*SECONDS, *(WITHIN * draw.random() for _ in range(STOPPED))]:
-            row(table, name, options, path, moment, longer)
+        if path is not None:
+            row(table, name, options, path, draw)
