@@ -62,6 +62,12 @@ IsDumpOf true (word ∷ words) asked IsRun (Some (Chosen dump)) = IsChosenDump (
 
 -- ---- internal
 
+-- whether the waves of all nets are asked for
+abbrev pub is_whole : Bool → List (List ℕ) → Bool
+is_whole false words = false
+is_whole true [] = true
+is_whole true (word ∷ words) = false
+
 -- what is kept of the run, with the waves of these nets
 pub record IsKeptWith (circuit : Numbered) (chosen : List ℕ) (run : Net → Wave) (kept : KeptWaves) : Type 0 where
   pub waves : AreWavesOf circuit run kept chosen

@@ -114,10 +114,6 @@ abbrev pub TellLastOf : Bool → Numbered → List Last → List Line → Type 0
 TellLastOf outputs circuit rows lines =
     (waves : Net → Wave) → AreLastsOf circuit waves rows → TellsLast outputs circuit.netlist waves lines
 
--- the words name nets, or waves aren't asked for
-abbrev pub AreKeptFor : Bool → List (List ℕ) → Type 0
-AreKeptFor is_asked words = (is_asked ≡ true) → words ≢ []
-
 -- this refusal is that a word names no net
 abbrev pub IsRefusedUnnamed : Numbered → List (List ℕ) → Refusal → Type 0
 IsRefusedUnnamed circuit words refusal.OutOfMemory = Unit {0}

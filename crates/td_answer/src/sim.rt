@@ -1,6 +1,6 @@
 //! The run of a pair of vectors.
 
-ghost use Rattle.std.specs.Prelude.{◌≡◌, ◌<◌, true, false, [], length, slice_index_or, is_some, IfOk, IfErr, if◌then◌else◌, None as Nothing, Some as Present};
+ghost use Rattle.std.specs.Prelude.{◌≡◌, ◌<◌, true, false, length, slice_index_or, is_some, IfOk, IfErr, if◌then◌else◌, None as Nothing, Some as Present};
 ghost use Rattle.std.specs.List.{All};
 ghost use Rattle.td_gates.specs.Wave.{Wave};
 ghost use Rattle.td_nets.specs.Netlist.{Net};
@@ -8,9 +8,9 @@ ghost use Rattle.td_circuit.specs.Numbering.{nets, setting, IsNumbering};
 ghost use Rattle.td_circuit.specs.Run.{Runs};
 ghost use Rattle.td_question.specs.Choosing.{AreChosen};
 ghost use Rattle.td_answer.specs.declared.outcome.Dump.TheVariants as DumpAs;
-ghost use Rattle.td_answer.specs.Dumps.{waves_of, CanBeDumped, IsKeptWith};
+ghost use Rattle.td_answer.specs.Dumps.{waves_of, is_whole, CanBeDumped, IsKeptWith};
 ghost use Rattle.td_answer.specs.Ends.{EndsByStop};
-ghost use Rattle.td_answer.specs.Simulations.{IsSimulated, HasRun, IsTrueSim, IsRefusedRun, IsRefusedSim, AreKeptFor, IsRefusedUnnamed, IsCutShort};
+ghost use Rattle.td_answer.specs.Simulations.{IsSimulated, HasRun, IsTrueSim, IsRefusedRun, IsRefusedSim, IsRefusedUnnamed, IsCutShort};
 ghost use Rattle.td_answer.specs.Writing.{CanBeWritten};
 
 use crate::moments::{kept_lasts, report_of, run_lasts};
@@ -125,6 +125,13 @@ fn dump_where(is_asked: bool, waves: ChosenWaves) -> Option<Dump>
     }
 }
 
+/// Whether the waves of all nets are asked for.
+fn is_whole(asked: &Sim<'_>) -> bool
+    ensures { result ≡ is_whole (is_some asked.now.dump) asked.now.nets }
+{
+    asked.dump.is_some() && asked.nets.names().is_empty()
+}
+
 /// The run of a pair of vectors whose waves are dumped.
 fn whole<'n, 'w>(
     alloc: Global,
@@ -133,8 +140,7 @@ fn whole<'n, 'w>(
     asked: &Sim<'w>,
     stop: &Stop,
 ) -> Result<Outcome, Refusal<'n, 'w>>
-    requires dumped { is_some asked.now.dump ≡ true }
-    requires all { asked.now.nets ≡ [] }
+    requires { is_whole (is_some asked.now.dump) asked.now.nets ≡ true }
     ensures says { IfOk result (IsTrueSim text.now reading.now asked.now) }
     ensures certified { IfOk result (λ outcome. outcome.certificate ≡ Nothing) }
     ensures written { IfOk result CanBeWritten }
@@ -169,7 +175,7 @@ fn chosen<'n, 'w>(
     asked: &Sim<'w>,
     stop: &Stop,
 ) -> Result<Outcome, Refusal<'n, 'w>>
-    requires { AreKeptFor (is_some asked.now.dump) asked.now.nets }
+    requires { is_whole (is_some asked.now.dump) asked.now.nets ≡ false }
     ensures says { IfOk result (IsTrueSim text.now reading.now asked.now) }
     ensures certified { IfOk result (λ outcome. outcome.certificate ≡ Nothing) }
     ensures written { IfOk result CanBeWritten }
@@ -210,7 +216,7 @@ pub(crate) fn sim<'n, 'w>(
     ensures refusal { IfErr result (IsRefusedSim text.now reading.now asked.now) }
     ensures stopped { IfErr result (EndsByStop stop.now.can_be_set) }
 {
-    if asked.dump.is_some() && asked.nets.names().is_empty() {
+    if is_whole(asked) {
         return whole(alloc, text, reading, asked, stop);
     }
     chosen(alloc, text, reading, asked, stop)

@@ -86,6 +86,10 @@ pub record IsChosenTo (circuit : Numbered) (words : List (Bor (List ℕ))) (i : 
   pub chosen : (numbers : List ℕ) → AreAdded circuit nets (map now_of (drop i words)) numbers → AreChosen circuit (map now_of words) numbers
   pub unnamed : (word : List ℕ) → IsUnnamed circuit (map now_of (drop i words)) word → IsUnnamed circuit (map now_of words) word
 
+pub chosen_none : (circuit : Numbered) (words : List (Bor (List ℕ))) (nets : List ℕ) → nets ≡ [] → IsChosenTo circuit words 0 nets
+chosen_none circuit words nets none =
+    subst (λ (before : List ℕ). IsChosenTo circuit words 0 before) (sym none) (record { chosen = λ numbers are. are; unnamed = λ word is. is })
+
 drop_next : (words : List (Bor (List ℕ))) (i : ℕ) (word : Bor (List ℕ)) → i < length words
     → map now_of (drop i words) ≡ (get_or words i word).now ∷ map now_of (drop (suc i) words)
 drop_next [] i word low = absurd (omega (arith, low))

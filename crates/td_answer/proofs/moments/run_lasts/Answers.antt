@@ -5,7 +5,7 @@ use Rattle.td_answer.specs.Runs.{last_of}
 use Rattle.td_answer.specs.Additions.{waves_in}
 use Rattle.td_answer.proofs.OutputNets.{output_at, output_count}
 use Rattle.td_answer.proofs.Ways.{last_more}
-use Rattle.td_answer.proofs.sim.lasts.Goals as goal
+use Rattle.td_answer.proofs.moments.run_lasts.Goals as goal
 
 pub name-requires-clause-constant : goal.name-requires-clause-constant
 name-requires-clause-constant c = rw c.outputs-output-items.ensures

@@ -1,10 +1,10 @@
 use Rattle.std.proofs.Common.{arith, sym, subst}
 use Rattle.td_question.specs.Found.{AreFound}
-use Rattle.td_question.proofs.Choices.{all_has, chosen_next, unnamed_at, chosen_all}
+use Rattle.td_question.proofs.Choices.{all_has, chosen_none, chosen_next, unnamed_at, chosen_all}
 use Rattle.td_question.proofs.chosen.nets_of.Goals as goal
 
 pub loop-word-init : goal.loop-word-init
-loop-word-init c = record { chosen = λ numbers are. are; unnamed = λ word is. is }
+loop-word-init c = chosen_none c.args.circuit.now c.args.words.now c.new-nets.result.items c.new-nets.ensures.items
 
 pub net_of-requires-clause-there : goal.net_of-requires-clause-there
 net_of-requires-clause-there c =
@@ -17,7 +17,7 @@ net_of-requires-clause-found c =
 pub loop-word-preserved : goal.loop-word-preserved
 loop-word-preserved c =
     chosen_next c.args.circuit.now c.args.words.now c.loop-word.word-index _ _ c.in-Some.net c.loop-word.nets.items _ c.loop-word-test.true (omega arith)
-    (rw (c.in-Some.is, c.as_bytes.ensures.value) at c.net_of.ensures.some) c.in_ok-push_new.ensures c.loop-word.invariant
+    (rw (c.in-Some.is, c.as_bytes.ensures.value) at c.net_of.ensures.some) c.in_ok-push_new-in-Some.ensures c.loop-word.invariant
 
 pub returns-in-None-clause-unnamed : goal.returns-in-None-clause-unnamed
 returns-in-None-clause-unnamed c =
