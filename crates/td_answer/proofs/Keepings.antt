@@ -1,23 +1,27 @@
 -- Runs of which chosen waves are kept, and their dumps.
 use Rattle.std.proofs.Common.{◌≡◌, ◌∙◌, ℕ, zero, suc, ◌+◌, ◌<◌, ◌==◌, Bool, true, false, List, [], ◌∷◌, ◌++◌, length, map, take, get_or, set, refl, arith, sym, ap, subst, Some, None, get_or-set_same}
-use Rattle.std.specs.Prelude.{slice_get, Option, IfSome, if◌then◌else◌}
+use Rattle.std.specs.Prelude.{slice_get, Option, Result, Ok, Err, IfOk, IfSome, if◌then◌else◌}
 use Rattle.std.specs.List.{All, list_any}
 use Rattle.std.proofs.lemmas.List.{take_more}
 use Rattle.std.proofs.lemmas.List.Elements.{All-push, All-nil, All-weaker}
 use Rattle.std.proofs.lemmas.Option.{slice_get-get_or}
+use Rattle.td_gates.specs.declared.primitives.Level.{Level}
 use Rattle.td_gates.specs.Wave.{Wave}
 use Rattle.td_gates.proofs.Places.{slice_get-some, slice_get-map_some}
 use Rattle.td_nets.specs.Netlist.{Net, Low}
 use Rattle.td_circuit.specs.Settings.{Setting}
-use Rattle.td_circuit.specs.Numbering.{Numbered, nets}
+use Rattle.td_circuit.specs.Numbering.{Numbered, nets, setting}
+use Rattle.td_circuit.specs.Run.{Runs}
+use Rattle.td_run.specs.Waves.{AreWithin}
 use Rattle.td_run.specs.Keeping.{KeptWaves, IsKeptOf}
 use Rattle.td_run.proofs.Choosing.{wanted_there}
 use Rattle.td_vcd.specs.Chosen.{IsKeptFor, CanBeChosen}
 use Rattle.td_question.specs.Choosing.{with_net, NamesNet, AreAdded, AreChosen}
 use Rattle.td_answer.specs.declared.outcome.Waves.{Waves}
 use Rattle.td_answer.specs.declared.outcome.ChosenWaves.{ChosenWaves}
+use Rattle.td_answer.specs.declared.outcome.Dump.{Dump}
 use Rattle.td_answer.specs.declared.outcome.Dump.TheVariants.{Whole, Chosen}
-use Rattle.td_answer.specs.Dumps.{IsDump, IsDumpOf, IsChosenDump, AreWavesOf, CanBeDumped, is_whole}
+use Rattle.td_answer.specs.Dumps.{IsDump, IsDumpOf, IsChosenDump, IsKeptWith, AreWavesOf, CanBeDumped, is_whole}
 use Rattle.td_answer.specs.Writing.{HasKept, HasDump}
 use Rattle.td_answer.proofs.OutputNets.{named_number}
 
@@ -68,6 +72,26 @@ can_be_dumped circuit run kept chosen fits named waves = record {
   };
 }
 
+-- the same of what may be stopped, or run out of memory
+pub kept_some : {E : Type 0} (circuit : Numbered) (first second : List Level) (wanted : List Bool) (chosen : List ℕ) (result : Result (Option KeptWaves) E)
+    → length wanted ≡ length (nets circuit) → All (λ net. net < length (nets circuit)) chosen → All (λ net. get_or wanted net false ≡ true) chosen
+    → IfOk result (λ kept. IfSome kept (λ kept. (run : Net → Wave) × Runs (setting circuit) first second run × IsKeptOf (nets circuit) run wanted kept))
+    → IfOk result (λ kept. IfSome kept (λ kept. (run : Net → Wave) × Runs (setting circuit) first second run × IsKeptWith circuit chosen run kept))
+kept_some circuit first second wanted chosen (Ok (Some kept)) long low these is =
+    (is.0, is.1, record { waves = waves_are circuit is.0 wanted chosen kept long low these is.2; lasts = is.2.lasts })
+kept_some circuit first second wanted chosen (Ok None) long low these is = tt
+kept_some circuit first second wanted chosen (Err error) long low these is = tt
+
+pub dumped_some : {E : Type 0} (circuit : Numbered) (first second : List Level) (chosen : List ℕ) (result : Result (Option KeptWaves) E) → All (λ net. 1 < net) chosen
+    → IfOk result (λ kept. IfSome kept (λ kept. (run : Net → Wave) × Runs (setting circuit) first second run × IsKeptWith circuit chosen run kept))
+    → IfOk result (λ kept. IfSome kept (λ kept. length kept.waves ≡ length (nets circuit)))
+    → IfOk result (λ kept. IfSome kept (λ kept. (net : ℕ) (wave : Wave) → slice_get kept.waves net ≡ Some (Some wave) → AreWithin 200001000000000 wave.changes))
+    → IfOk result (λ kept. IfSome kept (λ kept. CanBeDumped circuit kept chosen))
+dumped_some circuit first second chosen (Ok (Some kept)) named is count small =
+    can_be_dumped circuit is.0 kept chosen (record { count = count; within = small }) named is.2.waves
+dumped_some circuit first second chosen (Ok None) named is count small = tt
+dumped_some circuit first second chosen (Err error) named is count small = tt
+
 -- ---- the nets of words
 
 with_all : (P : ℕ → Type 0) (before : List ℕ) (net : ℕ) → All P before → P net → All P (with_net before net)
@@ -111,3 +135,22 @@ chosen_dump true (word ∷ words) asked IsRun dump whole is = is
 pub chosen_written : (is_asked : Bool) (dump : ChosenWaves) → HasKept dump → IfSome (if is_asked then Some (Chosen dump) else None) HasDump
 chosen_written false dump has = tt
 chosen_written true dump has = has
+
+-- a dump of one kind of run is one of another that holds of it
+pub dump_as : (is_asked : Bool) (words : List (List ℕ)) (asked : Setting) (IsOne IsOther : (Net → Wave) → Type 0)
+    → ((waves : Net → Wave) → IsOne waves → IsOther waves) → (dump : Option Dump)
+    → IsDumpOf is_asked words asked IsOne dump → IsDumpOf is_asked words asked IsOther dump
+dump_as false words asked IsOne IsOther each dump is = is
+dump_as true [] asked IsOne IsOther each None is = absurd is
+dump_as true [] asked IsOne IsOther each (Some (Whole dump)) is = record { of = is.of; runs = each _ is.runs; has = is.has }
+dump_as true [] asked IsOne IsOther each (Some (Chosen dump)) is = absurd is
+dump_as true (word ∷ words) asked IsOne IsOther each None is = absurd is
+dump_as true (word ∷ words) asked IsOne IsOther each (Some (Whole dump)) is = absurd is
+dump_as true (word ∷ words) asked IsOne IsOther each (Some (Chosen dump)) is = record {
+  of = is.of;
+  chosen = is.chosen;
+  run = is.run;
+  runs = each is.run is.runs;
+  waves = is.waves;
+  has = is.has;
+}

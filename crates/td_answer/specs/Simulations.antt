@@ -114,14 +114,11 @@ abbrev pub TellLastOf : Bool → Numbered → List Last → List Line → Type 0
 TellLastOf outputs circuit rows lines =
     (waves : Net → Wave) → AreLastsOf circuit waves rows → TellsLast outputs circuit.netlist waves lines
 
--- this refusal is that a word names no net
-abbrev pub IsRefusedUnnamed : Numbered → List (List ℕ) → Refusal → Type 0
-IsRefusedUnnamed circuit words refusal.OutOfMemory = Unit {0}
-IsRefusedUnnamed circuit words (refusal.Question (fault.NoNet quote)) = QuotesUnnamed circuit words quote
-IsRefusedUnnamed circuit words reason = ⊥
-
--- this refusal is that memory or time ran out
-abbrev pub IsCutShort : Refusal → Type 0
-IsCutShort refusal.OutOfMemory = Unit {0}
-IsCutShort refusal.OutOfTime = Unit {0}
-IsCutShort reason = ⊥
+-- the report and the dump are those of a run of these vectors
+pub record IsKeptOutcome (circuit : Numbered) (first second : List Level) (asked : Sim) (outcome : Outcome) : Type 0 where
+  pub waves : Net → Wave
+  pub runs : Runs (setting circuit) first second waves
+  pub report : IsRunReport asked.outputs circuit.netlist waves outcome.report
+  pub dumped : IsDumpOf (is_some asked.dump) asked.nets (setting circuit) (Runs (setting circuit) first second) outcome.dump
+  pub certified : outcome.certificate ≡ None
+  pub ends : outcome.status ≡ Done

@@ -1,16 +1,16 @@
 //! The run of a pair of vectors.
 
-ghost use Rattle.std.specs.Prelude.{◌≡◌, ◌<◌, true, false, length, slice_index_or, is_some, IfOk, IfErr, if◌then◌else◌, None as Nothing, Some as Present};
+ghost use Rattle.std.specs.Prelude.{◌≡◌, ◌<◌, true, false, length, slice_index_or, is_some, IfOk, IfErr, IfSome, IfNone, if◌then◌else◌, None as Nothing, Some as Present};
 ghost use Rattle.std.specs.List.{All};
 ghost use Rattle.td_gates.specs.Wave.{Wave};
 ghost use Rattle.td_nets.specs.Netlist.{Net};
-ghost use Rattle.td_circuit.specs.Numbering.{nets, setting, IsNumbering};
+ghost use Rattle.td_circuit.specs.Numbering.{nets, setting};
 ghost use Rattle.td_circuit.specs.Run.{Runs};
 ghost use Rattle.td_question.specs.Choosing.{AreChosen};
 ghost use Rattle.td_answer.specs.declared.outcome.Dump.TheVariants as DumpAs;
 ghost use Rattle.td_answer.specs.Dumps.{waves_of, is_whole, CanBeDumped, IsKeptWith};
 ghost use Rattle.td_answer.specs.Ends.{EndsByStop};
-ghost use Rattle.td_answer.specs.Simulations.{IsSimulated, HasRun, IsTrueSim, IsRefusedRun, IsRefusedSim, IsRefusedUnnamed, IsCutShort};
+ghost use Rattle.td_answer.specs.Simulations.{IsSimulated, HasRun, IsTrueSim, IsRefusedRun, IsRefusedSim, IsKeptOutcome};
 ghost use Rattle.td_answer.specs.Writing.{CanBeWritten};
 
 use crate::moments::{kept_lasts, report_of, run_lasts};
@@ -67,51 +67,29 @@ fn wanted_of(alloc: Global, circuit: &Circuit, chosen: &[u32]) -> Result<Vec<boo
     Ok(wanted)
 }
 
-/// What is kept of a pair's run, with the waves of chosen nets, unless the stop is set meanwhile.
-fn kept_of<'n, 'w>(
+/// What is kept of a pair's run, with the waves of chosen nets. There is nothing where the stop is
+/// set meanwhile. The error is out of memory.
+fn kept_of(
     alloc: Global,
     pair: &PairAsked,
     chosen: &[u32],
     stop: &Stop,
-) -> Result<Kept, Refusal<'n, 'w>>
+) -> Result<Option<Kept>, AllocError>
     requires chosen { All (λ net. net < length (nets pair.now.circuit)) chosen.now }
     requires named { All (λ net. 1 < net) chosen.now }
     requires first_fits { length pair.now.first.items ≡ length pair.now.circuit.netlist.inputs }
     requires second_fits { length pair.now.second.items ≡ length pair.now.circuit.netlist.inputs }
-    ensures kept { IfOk result (λ kept. (waves : Net → Wave)
+    ensures kept { IfOk result (λ kept. IfSome kept (λ kept. (waves : Net → Wave)
         × Runs (setting pair.now.circuit) pair.now.first.items pair.now.second.items waves
-        × IsKeptWith pair.now.circuit chosen.now waves kept) }
-    ensures count { IfOk result (λ kept. length kept.lasts ≡ length (nets pair.now.circuit)) }
-    ensures written { IfOk result (λ kept. CanBeDumped pair.now.circuit kept chosen.now) }
-    ensures refusal { IfErr result IsCutShort }
-    ensures stopped { IfErr result (EndsByStop stop.now.can_be_set) }
+        × IsKeptWith pair.now.circuit chosen.now waves kept)) }
+    ensures count { IfOk result (λ kept. IfSome kept (λ kept.
+        length kept.lasts ≡ length (nets pair.now.circuit))) }
+    ensures written { IfOk result (λ kept. IfSome kept (λ kept.
+        CanBeDumped pair.now.circuit kept chosen.now)) }
+    ensures stopped { IfOk result (λ kept. IfNone kept (stop.now.can_be_set ≡ true)) }
 {
     let wanted = wanted_of(alloc, &pair.circuit, chosen)?;
-    match kept_waves(alloc, &pair.circuit, &pair.first, &pair.second, &wanted, stop)? {
-        Some(kept) => Ok(kept),
-        None => Err(Refusal::OutOfTime),
-    }
-}
-
-/// The nets that the words of a run name, by number.
-fn chosen_of<'n, 'w>(
-    alloc: Global,
-    circuit: &Circuit,
-    asked: &Sim<'w>,
-) -> Result<Vec<u32>, Refusal<'n, 'w>>
-    ensures chosen { IfOk result (λ chosen. AreChosen circuit.now asked.now.nets chosen.items) }
-    ensures numbering { IsNumbering circuit.now }
-    ensures refusal { IfErr result (IsRefusedUnnamed circuit.now asked.now.nets) }
-{
-    // For the prover: this call says how the nets have their numbers.
-    let _gates = circuit.gates();
-    match nets_of(alloc, circuit, asked.nets.names())? {
-        Ok(chosen) => Ok(chosen),
-        Err(word) => Err(Refusal::Question(QuestionFault::NoNet(Quote {
-            text: word.as_bytes(),
-            line: None,
-        }))),
-    }
+    kept_waves(alloc, &pair.circuit, &pair.first, &pair.second, &wanted, stop)
 }
 
 /// The chosen waves, where they are asked for.
@@ -167,6 +145,43 @@ fn whole<'n, 'w>(
     })
 }
 
+/// The outcome of a pair's run of which the waves of chosen nets are kept. There is none where the
+/// stop is set meanwhile. The error is out of memory.
+fn chosen_by(
+    alloc: Global,
+    pair: PairAsked,
+    chosen: Vec<u32>,
+    asked: &Sim<'_>,
+    stop: &Stop,
+) -> Result<Option<Outcome>, AllocError>
+    requires part { is_whole (is_some asked.now.dump) asked.now.nets ≡ false }
+    requires chosen { AreChosen pair.circuit asked.now.nets chosen.items }
+    requires first_fits { length pair.first.items ≡ length pair.circuit.netlist.inputs }
+    requires second_fits { length pair.second.items ≡ length pair.circuit.netlist.inputs }
+    ensures says { IfOk result (λ outcome. IfSome outcome
+        (IsKeptOutcome pair.circuit pair.first.items pair.second.items asked.now)) }
+    ensures written { IfOk result (λ outcome. IfSome outcome CanBeWritten) }
+    ensures stopped { IfOk result (λ outcome. IfNone outcome (stop.now.can_be_set ≡ true)) }
+{
+    let Some(kept) = kept_of(alloc, &pair, &chosen, stop)? else {
+        return Ok(None);
+    };
+    let rows = kept_lasts(alloc, &pair.circuit, &kept)?;
+    let report = report_of(alloc, &pair.circuit, rows, asked.outputs)?;
+    let waves = ChosenWaves {
+        circuit: pair.circuit,
+        kept,
+        nets: chosen,
+    };
+    Ok(Some(Outcome {
+        report,
+        certificate: None,
+        dump: dump_where(asked.dump.is_some(), waves),
+        status: Status::Done,
+        verdict: None,
+    }))
+}
+
 /// The run of a pair of vectors of which no wave is kept but those of the nets that are named.
 fn chosen<'n, 'w>(
     alloc: Global,
@@ -183,22 +198,16 @@ fn chosen<'n, 'w>(
     ensures stopped { IfErr result (EndsByStop stop.now.can_be_set) }
 {
     let pair = pair_of(alloc, text, reading, &asked.inputs, asked.from, asked.to)?;
-    let chosen = chosen_of(alloc, &pair.circuit, asked)?;
-    let kept = kept_of(alloc, &pair, &chosen, stop)?;
-    let rows = kept_lasts(alloc, &pair.circuit, &kept)?;
-    let report = report_of(alloc, &pair.circuit, rows, asked.outputs)?;
-    let waves = ChosenWaves {
-        circuit: pair.circuit,
-        kept,
-        nets: chosen,
-    };
-    Ok(Outcome {
-        report,
-        certificate: None,
-        dump: dump_where(asked.dump.is_some(), waves),
-        status: Status::Done,
-        verdict: None,
-    })
+    match nets_of(alloc, &pair.circuit, asked.nets.names())? {
+        Ok(nets) => match chosen_by(alloc, pair, nets, asked, stop)? {
+            Some(outcome) => Ok(outcome),
+            None => Err(Refusal::OutOfTime),
+        },
+        Err(word) => Err(Refusal::Question(QuestionFault::NoNet(Quote {
+            text: word.as_bytes(),
+            line: None,
+        }))),
+    }
 }
 
 /// The run of a pair of vectors, unless the stop is set meanwhile. All waves are kept only where
