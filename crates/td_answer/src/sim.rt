@@ -89,7 +89,14 @@ fn kept_of(
     ensures stopped { IfOk result (λ kept. IfNone kept (stop.now.can_be_set ≡ true)) }
 {
     let wanted = wanted_of(alloc, &pair.circuit, chosen)?;
-    kept_waves(alloc, &pair.circuit, &pair.first, &pair.second, &wanted, stop)
+    kept_waves(
+        alloc,
+        &pair.circuit,
+        &pair.first,
+        &pair.second,
+        &wanted,
+        stop,
+    )
 }
 
 /// The chosen waves, where they are asked for.

@@ -30,7 +30,14 @@ fn chosen_waves_are_kept(rt: HostRuntime) -> Result<(), Fail> {
     assert_eq!(rt; circuit.net_count(), 6);
     let wanted = [false, false, false, true, false, true];
     let never = Stop::never();
-    let kept = kept_waves(alloc, &circuit, &[Level::Zero], &[Level::One], &wanted, &never)?;
+    let kept = kept_waves(
+        alloc,
+        &circuit,
+        &[Level::Zero],
+        &[Level::One],
+        &wanted,
+        &never,
+    )?;
     let kept = kept.ok_or("no stop is set")?;
     let run = waves(alloc, &circuit, &[Level::Zero], &[Level::One])?;
     let mut lasts = Vec::new(alloc);
@@ -58,7 +65,14 @@ fn runs_end_by_a_stop(rt: HostRuntime) -> Result<(), Fail> {
     let whole = waves_until(alloc, &circuit, &[Level::Zero], &[Level::One], &stop)?;
     assert!(rt; whole.is_none());
     let wanted = [false; 6];
-    let kept = kept_waves(alloc, &circuit, &[Level::Zero], &[Level::One], &wanted, &stop)?;
+    let kept = kept_waves(
+        alloc,
+        &circuit,
+        &[Level::Zero],
+        &[Level::One],
+        &wanted,
+        &stop,
+    )?;
     assert!(rt; kept.is_none());
     Ok(())
 }
