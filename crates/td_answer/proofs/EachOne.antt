@@ -76,3 +76,4 @@ refused_each text reading asked_by setting admit (refusal.OtherCircuit _) asked 
 refused_each text reading asked_by setting admit (refusal.NotJoined _) asked is = elim is [ ]
 refused_each text reading asked_by setting admit (refusal.OtherQuestion _) asked is = elim is [ ]
 refused_each text reading asked_by setting admit refusal.TooLong asked is = elim is [ ]
+refused_each text reading asked_by setting admit refusal.OutOfTime asked is = elim is [ ]

@@ -27,6 +27,7 @@ mod join;
 mod joined;
 mod kept;
 mod kept_certificate;
+mod moments;
 mod names;
 mod open_certificate;
 mod outcome;
@@ -49,7 +50,7 @@ mod worst;
 
 pub use answering::{answer, answer_plain};
 pub use difference::Difference;
-pub use outcome::{Outcome, Waves};
+pub use outcome::{ChosenWaves, Dump, Outcome, Waves};
 pub use refusal::Refusal;
 pub use status::Status;
 pub use texts::Texts;

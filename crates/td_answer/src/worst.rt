@@ -25,7 +25,7 @@ use crate::ended::Ended;
 use crate::kept::worst_kept;
 use crate::kept_certificate::Told;
 use crate::open_certificate::{Open, open_certificate};
-use crate::outcome::{Outcome, Waves};
+use crate::outcome::{Dump, Outcome, Waves};
 use crate::refusal::Refusal;
 use crate::runs::run_of;
 use std::alloc::{AllocError, Global};
@@ -75,7 +75,7 @@ pub(crate) fn dump_of(
     circuit: Circuit,
     pair: &Pair,
     is_asked: bool,
-) -> Result<Option<Waves>, AllocError>
+) -> Result<Option<Dump>, AllocError>
     requires first_fits { length pair.now.first ≡ length circuit.netlist.inputs }
     requires second_fits { length pair.now.second ≡ length circuit.netlist.inputs }
     ensures { IfOk result (IsDumpWhere is_asked (setting circuit) (RunsPair (setting circuit) pair.now)) }
@@ -84,7 +84,7 @@ pub(crate) fn dump_of(
         return Ok(None);
     }
     let run = run_of(alloc, &circuit, pair)?;
-    Ok(Some(Waves { circuit, run }))
+    Ok(Some(Dump::Whole(Waves { circuit, run })))
 }
 
 /// The report of an answer, and after it what is asked of its pair's run.

@@ -25,6 +25,7 @@ use std::sync::Wait;
 use std::thread::Threads;
 use std::time::Clock;
 use td_answer::{Outcome, Refusal, Status, answer_plain};
+use td_stop::Stop;
 use td_command::{Words, asked};
 use td_files::{Files, ReadFault};
 use td_request::{Command, Request};
@@ -198,7 +199,7 @@ fn carry_out_plain<F: Files, O: Sink, E: Sink>(
         Err(fault) => return tell_fault(alloc, fault, err),
     };
     let texts = bytes.texts();
-    match answer_plain(alloc, request, &texts) {
+    match answer_plain(alloc, request, &texts, &Stop::never()) {
         Ok(outcome) => finish(alloc, request, &outcome, files, out, err, &NoAdvice),
         Err(refusal) => tell_refusal(alloc, &refusal, err),
     }

@@ -1,7 +1,7 @@
 use Rattle.std.proofs.Common.{◌≡◌, map, take}
 use Rattle.td_answer.specs.Runs.{last_of}
 use Rattle.td_answer.specs.Additions.{waves_in}
-use Rattle.td_answer.proofs.sim.lasts.Given as goal
+use Rattle.td_answer.proofs.moments.run_lasts.Given as goal
 
 -- the rows so far
 abbrev pub invariant-loop-output : goal.invariant-loop-output

@@ -3,7 +3,7 @@ use Rattle.std.proofs.lemmas.Bool.{eqb-false, eqb-true}
 use Rattle.std.proofs.lemmas.Result.{on_ok_weaker}
 use Rattle.td_lines.specs.declared.line.Line.TheVariants as line
 use Rattle.td_answer.proofs.Listing.{none, some}
-use Rattle.td_answer.proofs.sim.push_lasts.Goals as goal
+use Rattle.td_answer.proofs.moments.push_lasts.Goals as goal
 
 pub returns-then-is_empty : goal.returns-then-is_empty
 returns-then-is_empty c =
