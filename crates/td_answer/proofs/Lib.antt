@@ -22,6 +22,7 @@ pub mod Writable
 pub mod Gathered
 pub mod Reporting
 pub mod EachOne
+pub mod Sighted
 pub mod Outlooks
 pub mod OutputNumbers
 pub mod Conditioned

@@ -39,6 +39,7 @@ mod requirement;
 mod runs;
 mod sample;
 mod sentence;
+mod sighting;
 mod sim;
 mod status;
 mod texts;

@@ -16,15 +16,14 @@ pub(crate) struct Deadline<'a, 'w, A> {
 impl<'a, 'w, A: Advice> Deadline<'a, 'w, A> {
     /// What ends the run of a request, if something does.
     pub(crate) fn of(request: &Request<'w>, advice: &'a A) -> Option<Self> {
-        let Command::Worst(search) = &request.command else {
-            return None;
-        };
-        if search.effort.seconds.is_none() && search.stop.is_none() {
+        let seconds = seconds_asked(&request.command);
+        let file = file_asked(&request.command);
+        if seconds.is_none() && file.is_none() {
             return None;
         }
         Some(Deadline {
-            seconds: seconds_of(search.effort.seconds),
-            file: search.stop,
+            seconds: seconds_of(seconds),
+            file,
             advice,
         })
     }
@@ -38,6 +37,25 @@ impl<'a, 'w, A: Advice> Deadline<'a, 'w, A> {
             stop.set();
         }
         stop
+    }
+}
+
+/// The seconds after which a command ends, if words ask for that.
+fn seconds_asked(command: &Command<'_>) -> Option<u64> {
+    match command {
+        Command::Sim(sim) => sim.seconds,
+        Command::Path(path) => path.seconds,
+        Command::Worst(search) => search.effort.seconds,
+        Command::Check(check) => check.seconds,
+        Command::Bound(_) | Command::Parts(_) | Command::Join(_) | Command::Info => None,
+    }
+}
+
+/// The file whose presence ends a command, if words ask for that.
+fn file_asked<'w>(command: &Command<'w>) -> Option<&'w str> {
+    match command {
+        Command::Worst(search) => search.stop,
+        _ => None,
     }
 }
 

@@ -4,7 +4,7 @@ use crate::message::tell;
 use std::alloc::{AllocError, Global};
 use std::time::{Clock, Instant};
 use td_answer::{Begun, TableWatch};
-use td_lines::Text;
+use td_lines::{Row, Text, print_row};
 use td_pool::{Progress, Watch};
 use td_search::Problem;
 use td_text::Sink;
@@ -82,6 +82,13 @@ fn row_line(alloc: Global, row: Begun<'_>, seconds: Option<u64>) -> Result<Text,
     Ok(text)
 }
 
+/// The line of a row that is found, as the table has it.
+fn found_line(alloc: Global, row: &Row) -> Result<Text, AllocError> {
+    let mut text = Text::new(alloc);
+    print_row(&mut text, row)?;
+    Ok(text)
+}
+
 /// Appends how many seconds have passed, if they are known.
 fn push_seconds(text: &mut Text, seconds: Option<u64>) -> Result<(), AllocError> {
     match seconds {
@@ -146,6 +153,10 @@ impl<'a, R: Clock, E: Sink> Watch for ProgressLines<'a, R, E> {
 }
 
 impl<'a, R: Clock, E: Sink> TableWatch for ProgressLines<'a, R, E> {
+    ghost use Rattle.std.specs.Prelude.{⊤};
+
+    ghost heard = { λ _ _ _. ⊤ };
+
     fn begun(&mut self, row: Begun<'_>) {
         if !self.is_asked {
             return;
@@ -153,4 +164,15 @@ impl<'a, R: Clock, E: Sink> TableWatch for ProgressLines<'a, R, E> {
         let seconds = seconds_since(self.clock, self.began);
         self.say(row_line(self.alloc, row, seconds));
     }
+
+    fn found(&mut self, row: &Row) {
+        if !self.is_asked {
+            return;
+        }
+        self.say(found_line(self.alloc, row));
+    }
+
+    ghost heard_nothing = { λ _. tt };
+
+    ghost heard_more = { λ _ _ _ _ _ _ _. tt };
 }

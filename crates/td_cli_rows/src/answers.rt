@@ -34,6 +34,7 @@ pub const ALONE: Shown = Shown {
     outputs: false,
     progress: false,
     work: false,
+    vectors: false,
 };
 
 /// A certificate about the pairs in which the first input rises and the second one stays.
@@ -60,6 +61,7 @@ const BESIDE: Shown = Shown {
     outputs: true,
     progress: false,
     work: false,
+    vectors: false,
 };
 
 /// Conditions on the first input, which contradict each other.
