@@ -1,5 +1,8 @@
 //! What ends a run before it is done.
 
+ghost use Rattle.std.specs.Prelude.{◌≡◌};
+ghost use Rattle.td_cli.specs.Deadlines.{seconds_asked, file_asked};
+
 use crate::advice::Advice;
 use td_request::{Command, Request};
 use td_stop::{Signal, Stop};
@@ -41,7 +44,9 @@ impl<'a, 'w, A: Advice> Deadline<'a, 'w, A> {
 }
 
 /// The seconds after which a command ends, if words ask for that.
-fn seconds_asked(command: &Command<'_>) -> Option<u64> {
+fn seconds_asked(command: &Command<'_>) -> Option<u64>
+    ensures { result ≡ seconds_asked command.now }
+{
     match command {
         Command::Sim(sim) => sim.seconds,
         Command::Path(path) => path.seconds,
@@ -52,7 +57,9 @@ fn seconds_asked(command: &Command<'_>) -> Option<u64> {
 }
 
 /// The file whose presence ends a command, if words ask for that.
-fn file_asked<'w>(command: &Command<'w>) -> Option<&'w str> {
+fn file_asked<'w>(command: &Command<'w>) -> Option<&'w str>
+    ensures { result ≡ file_asked command.now }
+{
     match command {
         Command::Worst(search) => search.stop,
         _ => None,
