@@ -98,16 +98,53 @@ As JSON, and from standard input.
   each \z+ [1] exact 5 edges 5
   each \z+ [0] exact 1 edges 1
 
-With `--progress` standard error names each output as it is begun. Standard output is as without it.
+With `--vectors` a row has a pair that shows its figure, in JSON too, where one is known: also of an output that isn't searched.
+
+  $ tdelay worst two.v --each --vectors
+  $ tdelay worst two.v --each --vectors --json
+  $ tdelay worst two.v --vectors --budget 0 --each
+  [3]
+  $ tdelay worst two.v --each --vectors --changes --required 4
+  [6]
+  $ tdelay worst two.v --each --vectors --seconds 0 --keep y=01
+  [3]
+  $ tdelay worst two.v --each --vectors --strategy refute
+  $ tdelay worst $NETLISTS/c17.v --each --vectors --seconds 0
+  [3]
+  $ tdelay worst $NETLISTS/c17.v --each --vectors --keep N22=01 --keep N23=01
+
+Each pair has the figure, as the run of it says.
+
+  $ for net in c17 adder_8 hazard late_fall passed_pulse; do
+  >   tdelay worst $NETLISTS/$net.v --each --vectors | grep ^each > rows
+  >   while read -r _ name _ figure _ _ _ from _ to; do
+  >     tdelay sim $NETLISTS/$net.v $from $to | grep -qx "last $name $figure" || echo "$net $name $from $to isn't $figure"
+  >   done < rows
+  >   wc -l < rows
+  > done; rm rows
+
+It is an option of `--each` alone.
+
+  $ tdelay worst nowhere.v --vectors
+  $ tdelay worst nowhere.v --vectors --hazards
+  $ tdelay worst nowhere.v --vectors --each --hazards
+  $ tdelay worst nowhere.v --vectors --each --path
+  $ tdelay worst two.v --each --vectors --vectors 2>&1 | head -1
+
+With `--progress` standard error names each output as it is begun, and has its line once it is found. Standard output is as without it.
 
   $ tdelay worst two.v --each --progress 2> told | grep -c ^each
   3
   $ sed 's/ seconds [0-9]*$/ ../' told
   rows 0 of 3 output y ..
+  each y exact 2 edges 2
   rows 1 of 3 output \z+ [1] ..
+  each \z+ [1] exact 5 edges 5
   rows 2 of 3 output \z+ [0] ..
-  $ tdelay worst two.v --each --changes --json --progress 2> told | cmp - <(tdelay worst two.v --each --changes --json); wc -l < told; rm told
-  3
+  each \z+ [0] exact 1 edges 1
+  $ tdelay worst two.v --each --changes --json --progress 2> told | cmp - <(tdelay worst two.v --each --changes --json); wc -l < told
+  6
+  $ tdelay worst two.v --each --changes --vectors --required 3 --progress 2> told | grep ^each | cmp - <(grep ^each told); rm told
 
 Without outputs there is no line.
 

@@ -204,6 +204,33 @@ With conditions.
   cause time
   [3]
 
+A run and a check have no outcome then. Nothing goes out, and no file is written.
+
+  $ tdelay worst $NETLISTS/c17.v --cert c17.cert > said
+  $ tdelay sim $NETLISTS/c17.v 00000 11111 --seconds 0 --vcd c17.vcd
+  $ tdelay path $NETLISTS/c17.v 00000 11111 --seconds 0
+  $ tdelay check $NETLISTS/c17.v c17.cert --seconds 0
+  $ tdelay check $NETLISTS/c17.v c17.cert --seconds 0 --json
+  $ tdelay sim $NETLISTS/c17.v 00000 11111 --seconds 0 --quiet
+  $ tdelay check $NETLISTS/c17.v c17.cert --seconds 0 --hints
+  $ ls c17.vcd
+  ls: cannot access 'c17.vcd': No such file or directory
+  [2]
+
+With more seconds they are as without. What is wrong with the words or a text, or a file that isn't there, is said in any case.
+
+  $ tdelay sim $NETLISTS/hazard.v 111 011 --seconds 1000 | cmp - <(tdelay sim $NETLISTS/hazard.v 111 011)
+  $ tdelay path $NETLISTS/hazard.v 111 011 --seconds=1000 | cmp - <(tdelay path $NETLISTS/hazard.v 111 011)
+  $ tdelay check $NETLISTS/c17.v c17.cert --seconds 18446744073709551615
+  accepted 3
+  $ tdelay sim nowhere.v 0 1 --seconds 0
+  tdelay: cannot read nowhere.v
+  [5]
+  $ tdelay bound $NETLISTS/c17.v --seconds 1 2>&1 | head -1
+  $ tdelay sim $NETLISTS/c17.v 00000 11111 --seconds x 2>&1 | head -1
+  $ tdelay path $NETLISTS/c17.v 00000 11111 --seconds 1 --seconds 2 2>&1 | head -1
+  $ tdelay check $NETLISTS/c17.v c17.cert --seconds 2>&1 | head -1
+
 The file is neither read nor written, so it may be one of the others. Only `worst` has the option.
 
   $ cp $NETLISTS/adder_8.v adder.v
