@@ -14,7 +14,7 @@ use Rattle.td_worst.specs.Kept.{IsKeptAnswer}
 use Rattle.td_lines.specs.declared.line.Found.{Found}
 use Rattle.td_answer.specs.Findings.{found_of, kept_found, IsTrueFound}
 use Rattle.td_answer.specs.Lines.{pair_in}
-use Rattle.td_answer.specs.Sightings.{HasFigure, HasVectors, IsTrueSighting, PairHas, kept_pair, pair_of, shown_by, sighting, vectors_of}
+use Rattle.td_answer.specs.Sightings.{HasFigure, HasVectors, IsTrueSighting, PairHas, kept_pair, pair_of, shown_by, sighted, vectors_of}
 use Rattle.td_answer.specs.Tables.{SomeHas}
 use Rattle.td_answer.proofs.EachOne.{about, true_found, true_kept}
 
@@ -30,7 +30,7 @@ module _ (setting : Setting) (asking : Asking) where
 
   -- what is true of the pair is true of its vectors
   pub true_sighting : (is_asked : Bool) (known : Found) (pair : Option Pair) → IsTrueFound setting asking known
-      → HasFigure setting asking known (shown_by known pair) → IsTrueSighting is_asked setting asking (sighting is_asked known pair)
+      → HasFigure setting asking known (shown_by known pair) → IsTrueSighting is_asked setting asking (sighted is_asked known pair)
   true_sighting false known pair is has = (is, refl)
   true_sighting true known pair is has = (is, there_and_back known (shown_by known pair) has)
 

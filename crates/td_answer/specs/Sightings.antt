@@ -33,8 +33,8 @@ shown_by (found.AtMost high) pair = None
 shown_by found.NoPair pair = None
 
 -- what is found, with the pair where that is asked for
-abbrev pub sighting : Bool → Found → Option Pair → Sighting
-sighting is_asked known pair = record { found = known; pair = cond is_asked (option_map vectors_of (shown_by known pair)) None }
+abbrev pub sighted : Bool → Found → Option Pair → Sighting
+sighted is_asked known pair = record { found = known; pair = cond is_asked (option_map vectors_of (shown_by known pair)) None }
 
 -- the pair is one of those that are asked about, and its delay is this
 abbrev pub PairHas : Setting → Asking → ℕ → Option Pair → Type 0

@@ -27,8 +27,8 @@ use crate::outcome::Outcome;
 use crate::outlook::{Outlook, outlooks, unsearched};
 use crate::refusal::Refusal;
 use crate::requirement::requirement_of;
-use crate::sample::sample;
-use crate::sighting::{Sighting, kept_pair, sighting};
+use crate::sample::sample_of;
+use crate::sighting::{Sighting, kept_pair, sighted};
 use crate::status::Status;
 use crate::watch::{Begun, TableWatch};
 use crate::worst::{limits_of, method_of};
@@ -87,7 +87,7 @@ fn searched<'n, 'w, R: Threads + Wait + Sync>(
         };
         let kept = td_worst::worst_kept(rt, alloc, question, limits)?;
         let known = kept_found(&kept.answer);
-        let seen = sighting(alloc, is_asked, known, kept_pair(&kept.answer))?;
+        let seen = sighted(alloc, is_asked, known, kept_pair(&kept.answer))?;
         return Ok(seen);
     }
     let question = Question {
@@ -98,7 +98,7 @@ fn searched<'n, 'w, R: Threads + Wait + Sync>(
     };
     let found = td_worst::worst(rt, alloc, question, limits, &mut Unwatched)?;
     let known = found_of(&found.answer);
-    let shown = sighting(alloc, is_asked, known, Some(pair_in(&found.answer)))?;
+    let shown = sighted(alloc, is_asked, known, Some(pair_in(&found.answer)))?;
     Ok(shown)
 }
 
@@ -118,7 +118,7 @@ fn found_in<'n, 'w, R: Threads + Wait + Sync>(
 {
     if let Some(found) = unsearched(outlook, inquiry) {
         let is_asked = inquiry.search.shown.vectors;
-        let seen = sighting(alloc, is_asked, found, outlook.pair)?;
+        let seen = sighted(alloc, is_asked, found, outlook.pair)?;
         return Ok(seen);
     }
     searched(rt, alloc, circuit, inquiry)
@@ -314,7 +314,7 @@ pub(crate) fn table<'n, 'w, 'a, W: TableWatch, R: Threads + Wait + Sync>(
         ..
     } = question_of(alloc, text, reading, &search.question)?;
     let mut report = begun(alloc, &circuit)?;
-    let sample = sample(alloc, &circuit, &admit)?;
+    let sample = sample_of(alloc, &circuit, &admit)?;
     let outlooks = outlooks(alloc, &circuit, &admit, &sample)?;
     let mut outputs = EachOutput::of(alloc, circuit)?;
     let inquiry = Inquiry {

@@ -27,7 +27,7 @@ use crate::names::label;
 use crate::outcome::Outcome;
 use crate::outlook::{Outlook, outlooks};
 use crate::refusal::Refusal;
-use crate::sample::sample;
+use crate::sample::sample_of;
 use crate::status::Status;
 use crate::worst::limits_of;
 use std::alloc::{AllocError, Global};
@@ -253,7 +253,7 @@ pub(crate) fn hazards<'n, 'w, 'a, R: Threads + Wait + Sync>(
         ..
     } = question_of(alloc, text, reading, &search.question)?;
     let mut report = begun(alloc, &circuit)?;
-    let sample = sample(alloc, &circuit, &admit)?;
+    let sample = sample_of(alloc, &circuit, &admit)?;
     let outlooks = outlooks(alloc, &circuit, &admit, &sample)?;
     let mut outputs = EachOutput::of(alloc, circuit)?;
     let inquiry = Inquiry {

@@ -80,7 +80,7 @@ fn sample_pair(alloc: Global, circuit: &Circuit, admit: &Admit) -> Result<Option
 }
 
 /// Some admitted pair and its run, where one with few changes is known.
-pub(crate) fn sample(
+pub(crate) fn sample_of(
     alloc: Global,
     circuit: &Circuit,
     admit: &Admit,

@@ -1,7 +1,7 @@
 //! What is found of an output, with the pair that shows it.
 
 ghost use Rattle.std.specs.Prelude.{◌≡◌, option_map, IfOk};
-ghost use Rattle.td_answer.specs.Sightings.{kept_pair, shown_by, sighting, vectors_of};
+ghost use Rattle.td_answer.specs.Sightings.{kept_pair, shown_by, sighted, vectors_of};
 
 use crate::answers::vector_of;
 use std::alloc::{AllocError, Global};
@@ -61,13 +61,13 @@ fn vectors_in(alloc: Global, pair: Option<&Pair>) -> Result<Option<Vectors>, All
 }
 
 /// What is found, with the pair where that is asked for.
-pub(crate) fn sighting(
+pub(crate) fn sighted(
     alloc: Global,
     is_asked: bool,
     found: Found,
     pair: Option<&Pair>,
 ) -> Result<Sighting, AllocError>
-    ensures { IfOk result (λ seen. seen ≡ sighting is_asked found (option_map (λ pair. pair.now) pair.entry)) }
+    ensures { IfOk result (λ seen. seen ≡ sighted is_asked found (option_map (λ pair. pair.now) pair.entry)) }
 {
     if !is_asked {
         return Ok(Sighting { found, pair: None });

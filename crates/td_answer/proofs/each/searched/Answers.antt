@@ -10,7 +10,7 @@ use Rattle.td_worst.specs.Methods.{tree_of}
 use Rattle.td_worst.proofs.Outcomes.{outcome_by}
 use Rattle.td_answer.specs.Findings.{found_of, kept_found}
 use Rattle.td_answer.specs.Lines.{pair_in}
-use Rattle.td_answer.specs.Sightings.{IsTrueSighting, kept_pair, sighting}
+use Rattle.td_answer.specs.Sightings.{IsTrueSighting, kept_pair, sighted}
 use Rattle.td_answer.proofs.EachOne.{unanswered, true_found, true_kept}
 use Rattle.td_answer.proofs.Sighted.{answer_shown, kept_shown, true_sighting}
 use Rattle.td_answer.proofs.Listing.{no_rows}
@@ -56,5 +56,5 @@ returns-in_ok-shown-clause-found g c =
     let seen = true_sighting given (all_admitted admit) asks (found_of answer) (Some (pair_in answer)) (true_found problem budget answer sound)
     (answer_shown problem budget answer sound) in
     rw c.in_ok-shown.ensures (rw (c.found_of-known.ensures, c.pair_in.ensures)
-    (subst (λ (keep : List NamedCondition). IsTrueSighting asks given (record { admit = admit; keep = keep }) (sighting asks (found_of answer) (Some (pair_in answer))))
+    (subst (λ (keep : List NamedCondition). IsTrueSighting asks given (record { admit = admit; keep = keep }) (sighted asks (found_of answer) (Some (pair_in answer))))
     (sym (no_rows c.args.inquiry.keep.now (eqb-true _ _ (sym c.is_empty.ensures ∙ c.if-not-is_empty.false)))) seen))

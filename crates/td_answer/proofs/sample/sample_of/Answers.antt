@@ -1,5 +1,5 @@
 use Rattle.td_answer.proofs.Outlooks.{pair_long}
-use Rattle.td_answer.proofs.sample.sample.Goals as goal
+use Rattle.td_answer.proofs.sample.sample_of.Goals as goal
 
 pub run_of-requires-clause-first_fits : goal.run_of-requires-clause-first_fits
 run_of-requires-clause-first_fits c =
