@@ -47,7 +47,7 @@ pub(crate) struct Outlook<'a> {
 impl<'a> Outlook<'a> {
     /// The bound, once the stop is set: then the output isn't searched any more.
     pub(crate) fn at_the_end(self, stop: &Stop) -> Option<u64>
-        ensures { (high : ℕ) → result ≡ Some high → self.edges ≡ Some high }
+        ensures { (high : ℕ) → result ≡ Some high → self.entry.edges ≡ Some high }
     {
         if stop.is_set() {
             return self.edges;
