@@ -25,6 +25,7 @@ pub mod Lasting
 pub mod Keepings
 pub mod Refused
 pub mod EachOne
+pub mod Sighted
 pub mod Outlooks
 pub mod OutputNumbers
 pub mod Conditioned

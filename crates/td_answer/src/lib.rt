@@ -40,6 +40,7 @@ mod requirement;
 mod runs;
 mod sample;
 mod sentence;
+mod sighting;
 mod sim;
 mod status;
 mod texts;

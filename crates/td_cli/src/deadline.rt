@@ -1,5 +1,8 @@
 //! What ends a run before it is done.
 
+ghost use Rattle.std.specs.Prelude.{◌≡◌};
+ghost use Rattle.td_cli.specs.Deadlines.{seconds_asked, file_asked};
+
 use crate::advice::Advice;
 use td_request::{Command, Request};
 use td_stop::Stop;
@@ -16,10 +19,8 @@ pub(crate) struct Deadline<'a, 'w, A> {
 impl<'a, 'w, A: Advice> Deadline<'a, 'w, A> {
     /// What ends the run of a request.
     pub(crate) fn of(request: &Request<'w>, advice: &'a A) -> Self {
-        let (seconds, file) = match &request.command {
-            Command::Worst(search) => (search.effort.seconds, search.stop),
-            _ => (None, None),
-        };
+        let seconds = seconds_asked(&request.command);
+        let file = file_asked(&request.command);
         Deadline {
             seconds: seconds_of(seconds),
             file,
@@ -49,6 +50,29 @@ impl<'a, 'w, A: Advice> Deadline<'a, 'w, A> {
             stop.set();
         }
         stop
+    }
+}
+
+/// The seconds after which a command ends, if words ask for that.
+fn seconds_asked(command: &Command<'_>) -> Option<u64>
+    ensures { result ≡ seconds_asked command.now }
+{
+    match command {
+        Command::Sim(sim) => sim.seconds,
+        Command::Path(path) => path.seconds,
+        Command::Worst(search) => search.effort.seconds,
+        Command::Check(check) => check.seconds,
+        Command::Bound(_) | Command::Parts(_) | Command::Join(_) | Command::Info => None,
+    }
+}
+
+/// The file whose presence ends a command, if words ask for that.
+fn file_asked<'w>(command: &Command<'w>) -> Option<&'w str>
+    ensures { result ≡ file_asked command.now }
+{
+    match command {
+        Command::Worst(search) => search.stop,
+        _ => None,
     }
 }
 

@@ -6,7 +6,7 @@ use std::alloc::{AllocError, Global};
 use std::sync::Wait;
 use std::time::Clock;
 use td_answer::{Begun, TableWatch};
-use td_lines::Text;
+use td_lines::{Row, Text, print_row};
 use td_pool::{Progress, Watch};
 use td_search::Problem;
 use td_stop::Gauge;
@@ -122,6 +122,13 @@ fn row_line(alloc: Global, row: Begun<'_>, seconds: Option<u64>) -> Result<Text,
     Ok(text)
 }
 
+/// The line of a row that is found, as the table has it.
+fn found_line(alloc: Global, row: &Row) -> Result<Text, AllocError> {
+    let mut text = Text::new(alloc);
+    print_row(&mut text, row)?;
+    Ok(text)
+}
+
 /// What the thread that waits for a search says where the search itself leaves no line.
 #[derive(Drop)]
 pub(crate) struct Beats {
@@ -214,6 +221,10 @@ impl<'a, R: Wait + Clock> Watch for ProgressLines<'a, R> {
 }
 
 impl<'a, R: Wait + Clock> TableWatch for ProgressLines<'a, R> {
+    ghost use Rattle.std.specs.Prelude.{⊤};
+
+    ghost heard = { λ _ _ _. ⊤ };
+
     fn begun(&mut self, row: Begun<'_>) {
         if !self.is_asked {
             return;
@@ -221,4 +232,15 @@ impl<'a, R: Wait + Clock> TableWatch for ProgressLines<'a, R> {
         let seconds = self.pace.seconds(self.rt);
         self.leave(row_line(self.alloc, row, seconds));
     }
+
+    fn found(&mut self, row: &Row) {
+        if !self.is_asked {
+            return;
+        }
+        self.leave(found_line(self.alloc, row));
+    }
+
+    ghost heard_nothing = { λ _. tt };
+
+    ghost heard_more = { λ _ _ _ _ _ _ _. tt };
 }

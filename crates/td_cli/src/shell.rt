@@ -76,8 +76,8 @@ pub fn run<R: Threads + Wait + Clock + Sync, S: AsStr, F: Files, O: Sink, E: Sin
     program(rt, alloc, words, files, out, err, &NoAdvice)
 }
 
-/// As `run`, without threads. None, with nothing read or written, where the words ask for `worst`,
-/// whose search needs threads.
+/// As `run`, without threads, so that no `--seconds` ends it. None, with nothing read or written,
+/// where the words ask for `worst`, whose search needs threads.
 pub fn run_plain<S: AsStr, F: Files, O: Sink, E: Sink>(
     alloc: Global,
     words: &[S],

@@ -13,7 +13,7 @@ use td_gates::Delay;
 use td_inputs::{Given, Taken, Topic};
 use td_lines::{Text, print_text};
 use td_pool::Unwatched;
-use td_reading::{Reading, Told};
+use td_reading::{Outputs, Reading, Told};
 use td_request::{
     Bound, Check, Command, Count, Effort, Files, Form, Inputs, Join, Parts, Path, Question,
     Request, Search, Shown, Sim, Strategy, Table,
@@ -34,6 +34,7 @@ pub const ALONE: Shown = Shown {
     outputs: false,
     progress: false,
     work: false,
+    vectors: false,
 };
 
 /// A certificate about the pairs in which the first input rises and the second one stays.
@@ -60,6 +61,7 @@ const BESIDE: Shown = Shown {
     outputs: true,
     progress: false,
     work: false,
+    vectors: false,
 };
 
 /// Conditions on the first input, which contradict each other.
@@ -211,6 +213,7 @@ fn checked() -> Command<'static> {
             fall: false,
             outputs: false,
         },
+        seconds: None,
     })
 }
 
@@ -362,6 +365,8 @@ fn runs(rt: HostRuntime) -> Result<(), Fail> {
         inputs: pinned(None),
         outputs: true,
         dump: None,
+        nets: Outputs::new(Vec::new(alloc)),
+        seconds: None,
     });
     let report = b"unit 1 ns\ndefaulted 0\nlast y never\nlast z 4\ntime 4\noutput z\n";
     assert!(rt; says(&rt, alloc, sim, &[], Status::Done, report)?);
@@ -370,6 +375,7 @@ fn runs(rt: HostRuntime) -> Result<(), Fail> {
         to: "01",
         inputs: pinned(None),
         output: None,
+        seconds: None,
     });
     let way = b"unit 1 ns\ndefaulted 0\nchange 0 b 0 1 input\nchange 4 z 0 1 xor 4\n";
     assert!(rt; says(&rt, alloc, path, &[], Status::Done, way)?);
@@ -378,6 +384,7 @@ fn runs(rt: HostRuntime) -> Result<(), Fail> {
         to: "01",
         inputs: pinned(None),
         output: Some("y"),
+        seconds: None,
     });
     assert!(rt;
         says(
@@ -394,6 +401,7 @@ fn runs(rt: HostRuntime) -> Result<(), Fail> {
         to: "01",
         inputs: pinned(None),
         output: Some("q"),
+        seconds: None,
     });
     let missing = b"tdelay: no output of this name\n";
     assert!(rt; says(&rt, alloc, none, &[], Status::BadCommand, missing)?);

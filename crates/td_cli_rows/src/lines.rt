@@ -141,6 +141,10 @@ fn searched(alloc: Global) -> Result<Report, AllocError> {
         output: label(alloc, "y")?,
         found: Found::Exact(5),
         edges: Some(7),
+        pair: Some(Vectors {
+            from: bits(alloc, &[false, true])?,
+            to: bits(alloc, &[])?,
+        }),
         changes: None,
         required: None,
     })?;
@@ -148,6 +152,7 @@ fn searched(alloc: Global) -> Result<Report, AllocError> {
         output: label(alloc, "exact")?,
         found: Found::Between { low: 2, high: 5 },
         edges: None,
+        pair: None,
         changes: None,
         required: None,
     })?;
@@ -155,6 +160,7 @@ fn searched(alloc: Global) -> Result<Report, AllocError> {
         output: label(alloc, "z")?,
         found: Found::AtMost(5),
         edges: Some(5),
+        pair: None,
         changes: None,
         required: None,
     })?;
@@ -162,6 +168,7 @@ fn searched(alloc: Global) -> Result<Report, AllocError> {
         output: label(alloc, "w")?,
         found: Found::NoPair,
         edges: Some(3),
+        pair: None,
         changes: None,
         required: None,
     })?;
@@ -169,6 +176,10 @@ fn searched(alloc: Global) -> Result<Report, AllocError> {
         output: label(alloc, "v")?,
         found: Found::Exact(5),
         edges: Some(5),
+        pair: Some(Vectors {
+            from: bits(alloc, &[true])?,
+            to: bits(alloc, &[false])?,
+        }),
         changes: Some(Changes {
             rise: Found::Exact(5),
             fall: Found::Between { low: 2, high: 4 },
@@ -180,6 +191,7 @@ fn searched(alloc: Global) -> Result<Report, AllocError> {
         output: label(alloc, "u")?,
         found: Found::NoPair,
         edges: None,
+        pair: None,
         changes: Some(Changes {
             rise: Found::NoPair,
             fall: Found::AtMost(4),
@@ -207,6 +219,7 @@ fn required_row(
         output: label(alloc, name)?,
         found,
         edges: Some(5),
+        pair: None,
         changes: None,
         required: Some(required),
     })

@@ -24,6 +24,7 @@ use Rattle.td_lines.specs.declared.line.Found.TheVariants as found
 use Rattle.td_lines.specs.declared.line.Changes.{Changes}
 use Rattle.td_lines.specs.declared.line.Requirement.{Requirement}
 use Rattle.td_lines.specs.declared.line.Row.{Row}
+use Rattle.td_lines.specs.declared.line.Vectors.{Vectors}
 use Rattle.td_lines.specs.declared.line.Hazard.{Hazard}
 use Rattle.td_lines.specs.declared.line.Hazard.TheVariants as hazard
 use Rattle.td_lines.specs.declared.line.HazardRow.{HazardRow}
@@ -146,6 +147,11 @@ found_text found.NoPair = codes "none"
 abbrev pub edges_text : Option ℕ → List ℕ
 edges_text bound = codes " edges " ++ bound_text bound
 
+-- a pair that has the figure, or the lower one, where there is one
+abbrev pub pair_text : Option Vectors → List ℕ
+pair_text None = []
+pair_text (Some pair) = codes " from " ++ bits pair.from ++ codes " to " ++ bits pair.to
+
 -- a moment after 0, if this is one
 abbrev pub late : ℕ → Option ℕ
 late time = if time == 0 then None else Some time
@@ -182,7 +188,7 @@ requirement_text (Some required) found =
 
 abbrev pub row_line : Row → List ℕ
 row_line row =
-    codes "each " ++ row.output ++ codes " " ++ found_text row.found ++ edges_text row.edges ++ changes_text row.changes
+    codes "each " ++ row.output ++ codes " " ++ found_text row.found ++ edges_text row.edges ++ pair_text row.pair ++ changes_text row.changes
     ++ requirement_text row.required row.found ++ newline
 
 -- a pair of vectors, or why there is none

@@ -10,8 +10,12 @@ use Rattle.td_answer.specs.declared.refusal.Refusal.TheVariants as refusal
 use Rattle.td_answer.proofs.EachOne.{refused_each}
 use Rattle.td_answer.proofs.hazards.hazards.Goals as goal
 
-pub outlooks-requires : goal.outlooks-requires
-outlooks-requires g c =
+pub sample_of-requires : goal.sample-requires
+sample_of-requires g c =
+    asked_held c.args.text.now c.args.reading.now c.args.search.now.question (setting c.in_ok-circuit.field-0.circuit) c.in_ok-circuit.field-0.admit c.in_ok-circuit.ensures.asked
+
+pub outlooks-requires-clause-held : goal.outlooks-requires-clause-held
+outlooks-requires-clause-held g c =
     asked_held c.args.text.now c.args.reading.now c.args.search.now.question (setting c.in_ok-circuit.field-0.circuit) c.in_ok-circuit.field-0.admit c.in_ok-circuit.ensures.asked
 
 pub rows-requires-clause-held : goal.rows-requires-clause-held

@@ -36,7 +36,7 @@ both_of-requires-clause-outlook g c κs lives =
       AllZip-long (λ output. IsTrueOutlook (alone (setting whole) output) c.args.inquiry.admit.now) whole.netlist.outputs c.args.outlooks.now c.requires.outlooks,
       c.loop-place-test.true,
     ) in
-    let nothing : Outlook = record { edges = None; low = None } in
+    let nothing : Outlook = record { edges = None; low = None; pair = None } in
     subst (λ (now : Numbered). (output : Name) → slice_get now.netlist.outputs c.loop-place.place ≡ Some output
     → IsTrueOutlook (alone (setting now) output) c.args.inquiry.admit.now (get_or c.args.outlooks.now c.loop-place.place nothing)) (sym c.loop-place.invariant.0)
     (λ output stands. zip_read (λ output. IsTrueOutlook (alone (setting whole) output) c.args.inquiry.admit.now) whole.netlist.outputs c.args.outlooks.now c.requires.outlooks

@@ -1,5 +1,5 @@
 use Rattle.td_answer.proofs.Outlooks.{pair_long}
-use Rattle.td_answer.proofs.sample.sample.Goals as goal
+use Rattle.td_answer.proofs.sample.sample_of.Goals as goal
 
 pub run_of-requires-clause-first_fits : goal.run_of-requires-clause-first_fits
 run_of-requires-clause-first_fits c =
@@ -11,7 +11,6 @@ run_of-requires-clause-second_fits c =
 
 pub returns-in_ok-run-in-Some : goal.returns-in_ok-run-in-Some
 returns-in_ok-run-in-Some c = record {
-  pair = c.in-Some.pair;
   admitted = rw c.in-Some.is at c.in_ok-pair.ensures;
   runs = c.in_ok-run-in-Some.ensures.runs;
   whole = c.in_ok-run-in-Some.ensures.has.count;
