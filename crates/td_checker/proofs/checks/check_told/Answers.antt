@@ -13,5 +13,5 @@ returns-in-Ok-Some-clause-only c = λ verdict have.
 pub returns-in-Ok-Some-clause-truth : goal.returns-in-Ok-Some-clause-truth
 returns-in-Ok-Some-clause-truth c = rw (c.in-Ok-Some.is, c.in-Ok-Some.field-0-is) at c.check_told_until.ensures.truth
 
-pub returns-in-Err-clause-only : goal.returns-in-Err-clause-only
-returns-in-Err-clause-only c = λ verdict have. rw c.in-Err.is at c.check_told_until.ensures.only verdict have
+pub returns-clause-only : goal.returns-clause-only
+returns-clause-only c = λ verdict have. rw c.in-Err.is at c.check_told_until.ensures.only verdict have
