@@ -123,7 +123,15 @@ fn judge_line(
     if !is_of_one_pair(cube, node) {
         return Ok(Some(Flaw::NotOnePair));
     }
-    if !is_of_cube(alloc, scratch, circuit, task.question, cube, node, task.stop)? {
+    if !is_of_cube(
+        alloc,
+        scratch,
+        circuit,
+        task.question,
+        cube,
+        node,
+        task.stop,
+    )? {
         return Ok(Some(wrong(node)));
     }
     if !is_within(task.most, node) {

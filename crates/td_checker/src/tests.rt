@@ -88,7 +88,10 @@ fn a_stop_that_is_not_set(rt: HostRuntime) -> Result<(), Fail> {
     never.set();
     for (certificate, expected) in &CERTIFICATES {
         assert_eq!(rt; verdict(alloc, certificate)?, *expected);
-        assert_eq!(rt; verdict_until(alloc, certificate, &Stop::new())?, Some(*expected));
+        assert_eq!(rt;
+            verdict_until(alloc, certificate, &Stop::new())?,
+            Some(*expected)
+        );
         assert_eq!(rt; verdict_until(alloc, certificate, &never)?, Some(*expected));
     }
     Ok(())
