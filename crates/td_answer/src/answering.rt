@@ -130,21 +130,24 @@ fn searched<'n, 'w, W: TableWatch, R: Threads + Wait + Sync>(
     }
 }
 
-/// The verdict on the certificate's text, if it is there.
+/// The verdict on the certificate's text, if it is there, unless the stop is set before it is
+/// known.
 fn checked<'n, 'w>(
     alloc: Global,
     text: &'n [u8],
     reading: &Reading<'_>,
     asked: &Check<'w>,
     certificates: &[Vec<u8>],
+    stop: &Stop,
 ) -> Result<Outcome, Refusal<'n, 'w>>
     ensures says { IfOk result (IsCheckedTrue text.now reading.now asked.now (slice_get certificates.now 0)) }
     ensures certified { IfOk result (λ outcome. outcome.certificate ≡ Nothing) }
     ensures written { IfOk result CanBeWritten }
     ensures refusal { IfErr result (IsRefusedChecked text.now reading.now asked.now (slice_get certificates.now 0)) }
+    ensures stopped { IfErr result (EndsByStop stop.now.can_be_set) }
 {
     let Some(certificate) = certificates.first() else {
         return Err(Refusal::Unread(asked.certificate));
     };
-    verdict_on(alloc, text, reading, asked.told, certificate)
+    verdict_on(alloc, text, reading, asked.told, certificate, stop)
 }
