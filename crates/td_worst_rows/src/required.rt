@@ -11,7 +11,8 @@ use td_pool::{Effort, Limits, Unwatched};
 use td_search::Answer;
 use td_stop::Stop;
 use td_worst::{
-    Found, KeptAnswer, KeptQuestion, Method, Question, Support, tree_of_high, worst, worst_kept,
+    Found, KeptAnswer, KeptFound, KeptQuestion, Method, Question, Support, tree_of_high, worst,
+    worst_kept,
 };
 
 /// One worker, and more work than these questions take.
@@ -67,22 +68,22 @@ fn shown<R: Threads + Wait + Sync + Abort>(
         stop: &Stop::never(),
     };
     match worst_kept(rt, alloc, question, limits) {
-        Ok(
+        Ok(KeptFound { answer, .. }) => match answer {
             KeptAnswer::Between {
                 best,
                 high,
                 refuted,
                 ..
-            },
-        ) => {
-            let support = Support::by_steps(refuted);
-            let tree = tree_of_high(alloc, question, &best, high, support);
-            let nodes = tree.map_or(0, |tree| tree.nodes().len());
-            let Timed { time, .. } = best;
-            Ok((time, high, nodes))
-        }
-        Ok(KeptAnswer::Exact { best, tree }) => Ok((best.time, best.time, tree.nodes().len())),
-        Ok(_) => Err(Fail::from("no pair")),
+            } => {
+                let support = Support::by_steps(refuted);
+                let tree = tree_of_high(alloc, question, &best, high, support);
+                let nodes = tree.map_or(0, |tree| tree.nodes().len());
+                let Timed { time, .. } = best;
+                Ok((time, high, nodes))
+            }
+            KeptAnswer::Exact { best, tree } => Ok((best.time, best.time, tree.nodes().len())),
+            _ => Err(Fail::from("no pair")),
+        },
         Err(_) => Err(Fail::from("no answer")),
     }
 }
