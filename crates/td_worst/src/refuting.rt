@@ -22,8 +22,9 @@ use td_refute::{Effort, Ending, Refuted, refute};
 use td_search::{Answer, Cause, Problem};
 use td_stop::Stop;
 
-/// Why a search ends that shows no more: the time where the stop is set, the memory that it would
-/// need, else the budget, also where there is nothing more to try before that is used up.
+/// Why a search ends that shows no more: the time where the stop is set; the memory that it would
+/// need, also where all is known and lines that show it find no room; else the budget, also where
+/// there is nothing more to try before that is used up.
 pub(crate) fn cause_of(ending: Ending, stop: &Stop) -> Cause
     ensures { result ≡ cause.Time → stop.now.can_be_set ≡ true }
 {
@@ -31,8 +32,8 @@ pub(crate) fn cause_of(ending: Ending, stop: &Stop) -> Cause
         return Cause::Time;
     }
     match ending {
-        Ending::Memory => Cause::Memory,
-        _ => Cause::Budget,
+        Ending::Memory | Ending::Closed | Ending::NoPair => Cause::Memory,
+        Ending::Work | Ending::Stop | Ending::Enough | Ending::Lost => Cause::Budget,
     }
 }
 
