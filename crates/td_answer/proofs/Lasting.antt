@@ -1,6 +1,6 @@
 -- The moments at which outputs change last, by rows.
 use Rattle.std.proofs.Common.{◌≡◌, ◌≢◌, ◌∙◌, ℕ, zero, suc, ◌+◌, ◌<◌, ◌≤◌, Bool, true, false, List, [], ◌∷◌, ◌++◌, length, map, max, get_or, take, refl, arith, sym, ap, subst, ◌⊎◌, inl, inr, Some, None}
-use Rattle.std.specs.Prelude.{slice_get, unwrap_or, Option}
+use Rattle.std.specs.Prelude.{slice_get, unwrap_or, not, Option}
 use Rattle.std.specs.List.{Contains}
 use Rattle.std.proofs.lemmas.Bool.{cases_lt}
 use Rattle.std.proofs.lemmas.List.{length-map}
@@ -17,7 +17,7 @@ use Rattle.td_lines.specs.declared.line.Line.TheVariants as line
 use Rattle.td_answer.specs.Heads.{head_lines}
 use Rattle.td_answer.specs.Names.{label}
 use Rattle.td_answer.specs.Runs.{last_of, AreLasts, IsStill, TellsLast}
-use Rattle.td_answer.specs.Additions.{AddsLines}
+use Rattle.td_answer.specs.Additions.{AddsLines, NamesNet}
 use Rattle.td_answer.specs.Simulations.{IsRunReport, AreLastsOf, latest_in, IsFirstRow, TellLastOf, told_lines}
 use Rattle.td_answer.proofs.Adding.{mapped_more}
 use Rattle.td_answer.proofs.OutputNets.{output_at, one_name}
@@ -44,6 +44,15 @@ kept_more circuit numbering waves lasts are i within rows new row name moment at
     ∙ ap (λ (m : Option ℕ). record { output = label out.name; moment = m }) is in
     mapped_more (last_of waves) circuit.netlist.outputs i out.name rows new row out.at
     (slice_get-some circuit.netlist.outputs i out.name out.at) before told added
+
+-- the line of an output's net has its name
+pub line_named : (circuit : Numbered) → IsNumbering circuit → (place : ℕ) → place < length circuit.outputs → (net : ℕ)
+    → net ≡ get_or circuit.outputs place 0 → (told : Line) → NamesNet circuit net told
+    → (name : Name) → slice_get circuit.netlist.outputs place ≡ Some name → told ≡ line.Output (label name)
+line_named circuit numbering place within net is told names name at =
+    let out = output_at circuit numbering place within in
+    names name
+    (ap (slice_get (nets circuit)) is ∙ out.net ∙ ap (λ (n : Name). Some (Named n)) (some-same out.name name (sym out.at ∙ at)))
 
 -- ---- the latest of rows
 
@@ -155,16 +164,16 @@ module _ (circuit : Numbered) (rows : List Last) (waves : Net → Wave) (are : A
         },
       )
 
-pub untold : (outputs : Bool) (circuit : Numbered) (rows : List Last) → outputs ≡ false → TellLastOf outputs circuit rows []
+pub untold : (outputs : Bool) (circuit : Numbered) (rows : List Last) → not outputs ≡ true → TellLastOf outputs circuit rows []
 untold true circuit rows is = absurd cc
 untold false circuit rows is = λ waves are. refl
 
-pub told_none : (outputs : Bool) (circuit : Numbered) (rows : List Last) (time : ℕ) → outputs ≡ true → time ≡ latest_in rows
+pub told_none : (outputs : Bool) (circuit : Numbered) (rows : List Last) (time : ℕ) → not outputs ≡ false → time ≡ latest_in rows
     → IsFirstRow rows time None → TellLastOf outputs circuit rows []
 told_none false circuit rows time is latest none = absurd cc
 told_none true circuit rows time is latest none = λ waves are. inl (still circuit rows waves are time latest none, refl)
 
-pub told_some : (outputs : Bool) (circuit : Numbered) (rows : List Last) (time place : ℕ) (told : Line) → outputs ≡ true → time ≡ latest_in rows
+pub told_some : (outputs : Bool) (circuit : Numbered) (rows : List Last) (time place : ℕ) (told : Line) → not outputs ≡ false → time ≡ latest_in rows
     → IsFirstRow rows time (Some place)
     → ((name : Name) → slice_get circuit.netlist.outputs place ≡ Some name → told ≡ line.Output (label name))
     → TellLastOf outputs circuit rows (told ∷ [])

@@ -17,8 +17,8 @@ pub name-requires-clause-net : goal.name-requires-clause-net
 name-requires-clause-net c = rw c.outputs-output-items.ensures
     ((output_at c.args.circuit.now c.gates-gates.ensures.numbering c.loop-output.output-index (rw c.outputs-output-items.ensures at c.loop-output-test.true)).within)
 
-pub last-requires : goal.last-requires
-last-requires c = rw (c.requires, c.outputs-output-items.ensures)
+pub last-moment-requires : goal.last-moment-requires
+last-moment-requires c = rw (c.requires, c.outputs-output-items.ensures)
     ((output_at c.args.circuit.now c.gates-gates.ensures.numbering c.loop-output.output-index (rw c.outputs-output-items.ensures at c.loop-output-test.true)).within)
 
 pub loop-output-preserved : goal.loop-output-preserved
