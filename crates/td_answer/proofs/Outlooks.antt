@@ -180,7 +180,7 @@ module _ (circuit : Numbered) (numbering : IsNumbering circuit) where
         → IsTrueOutlook (alone (setting circuit) name) admit outlook
     true_outlook fit admit count front whole is_front sample is_sample signal at_front outlook last low pair =
         let has : HasLow (alone (setting circuit) name) admit (shown outlook.pair) outlook.low = rw pair (low_alone admit sample is_sample outlook.low low) in record {
-      bound = λ moment is. bound_alone fit admit.pins count front whole is_front signal at_front moment (sym last ∙ is);
-      low = λ moment is. some_has (alone (setting circuit) name) (all_admitted admit) moment (shown outlook.pair) (has moment is);
-      pair = has;
-    }
+          bound = λ moment is. bound_alone fit admit.pins count front whole is_front signal at_front moment (sym last ∙ is);
+          low = λ moment is. some_has (alone (setting circuit) name) (all_admitted admit) moment (shown outlook.pair) (has moment is);
+          pair = has;
+        }

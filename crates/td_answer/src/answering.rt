@@ -91,7 +91,14 @@ pub fn answer_plain<'n, 'w, 'c>(
     let text = texts.netlist;
     let reading = &request.reading;
     match &request.command {
-        Command::Check(asked) => return checked(alloc, text, reading, asked, texts.certificates, stop),
+        Command::Check(asked) => return checked(
+            alloc,
+            text,
+            reading,
+            asked,
+            texts.certificates,
+            stop,
+        ),
         Command::Sim(asked) => return sim(alloc, text, reading, asked, stop),
         Command::Path(asked) => return path(alloc, text, reading, asked, stop),
         Command::Bound(asked) => return bounds(alloc, text, reading, asked),

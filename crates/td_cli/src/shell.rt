@@ -25,10 +25,10 @@ use std::sync::Wait;
 use std::thread::Threads;
 use std::time::Clock;
 use td_answer::{Outcome, Refusal, Status, answer_plain};
-use td_stop::Stop;
 use td_command::{Words, asked};
 use td_files::{Files, ReadFault};
 use td_request::{Command, Request};
+use td_stop::Stop;
 use td_text::Sink;
 
 /// The program: carries out what the words of a command line ask for, and answers how it ends. The
