@@ -186,10 +186,14 @@ requirement_text None found = []
 requirement_text (Some required) found =
     codes " required " ++ standing_text required.standing ++ codes " slack " ++ slacks_text required.moment found
 
+abbrev pub figures_text : Row → List ℕ
+figures_text row = codes "each " ++ row.output ++ codes " " ++ found_text row.found ++ edges_text row.edges
+
+abbrev pub columns_text : Row → List ℕ
+columns_text row = pair_text row.pair ++ changes_text row.changes ++ requirement_text row.required row.found
+
 abbrev pub row_line : Row → List ℕ
-row_line row =
-    codes "each " ++ row.output ++ codes " " ++ found_text row.found ++ edges_text row.edges ++ pair_text row.pair ++ changes_text row.changes
-    ++ requirement_text row.required row.found ++ newline
+row_line row = figures_text row ++ columns_text row ++ newline
 
 -- a pair of vectors, or why there is none
 abbrev pub hazard_text : Hazard → List ℕ

@@ -3,7 +3,7 @@
 ghost use Rattle.std.specs.Prelude.{◌≡◌, ◌++◌, codes, Some, None, OnOk};
 ghost use Rattle.json.specs.Tree.{json_tokens, items_tokens};
 ghost use Rattle.td_lines.specs.declared.line.Found.TheVariants as FoundAs;
-ghost use Rattle.td_lines.specs.Texts.{found_text, edges_text, pair_text, late, column_text, changes_text, requirement_text, row_line};
+ghost use Rattle.td_lines.specs.Texts.{found_text, edges_text, pair_text, late, column_text, changes_text, requirement_text, figures_text, columns_text, row_line};
 ghost use Rattle.td_lines.specs.Values.{Adds, column_value, glitch_value, fall_value, changes_value, pair_value, edges_value, found_value, requirement_value, row_value};
 
 use crate::line::{Changes, Found, Row, Vectors};
@@ -104,16 +104,30 @@ fn changes(out: &mut Text, changes: &Option<Changes>) -> Result<(), AllocError>
     }
 }
 
+/// What is found of an output, and its bound by edges.
+fn figures(out: &mut Text, row: &Row) -> Result<(), AllocError>
+    ensures { OnOk result (out.new ≡ out.old ++ figures_text row.now) }
+{
+    out.word_between(b"each ", row.output.text(), b" ")?;
+    found(out, row.found)?;
+    edges(out, row.edges)
+}
+
+/// What else is asked for.
+fn columns(out: &mut Text, row: &Row) -> Result<(), AllocError>
+    ensures { OnOk result (out.new ≡ out.old ++ columns_text row.now) }
+{
+    pair(out, &row.pair)?;
+    changes(out, &row.changes)?;
+    requirement(out, row.required, row.found)
+}
+
 impl Printed for Row {
     ghost text = { row_line };
 
     fn print(&self, out: &mut Text) -> Result<(), AllocError> {
-        out.word_between(b"each ", self.output.text(), b" ")?;
-        found(out, self.found)?;
-        edges(out, self.edges)?;
-        pair(out, &self.pair)?;
-        changes(out, &self.changes)?;
-        requirement(out, self.required, self.found)?;
+        figures(out, self)?;
+        columns(out, self)?;
         out.push(b"\n")
     }
 }
