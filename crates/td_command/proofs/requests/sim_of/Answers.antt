@@ -1,5 +1,5 @@
 use Rattle.td_command.proofs.CommandLines.{only_sim}
-use Rattle.td_command.proofs.requests.sim.Goals as goal
+use Rattle.td_command.proofs.requests.sim_of.Goals as goal
 
 pub returns-in_err-from : goal.returns-in_err-from
 returns-in_err-from c = rw c.from_residual.ensures (only_sim (λ asked has. c.in_err-from.ensures asked.from has.from))
