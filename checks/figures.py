@@ -64,8 +64,8 @@ TABLES = {
     "hostile": hostile.hostile,
     "first": costs.first,
 }
-# The page has no place for these: before and after a change, of conditions, and by hand.
-UNPLACED = {"speed", "workers", "promises", "hazards", "stops"}
+# The page has no place for these: before and after a change, and of conditions.
+UNPLACED = {"speed", "workers", "promises", "hazards"}
 # Those of which each figure is of one run.
 ONCE = {
     "strategies", "collection", "promises", "changes", "hazards", "required", "certificates",
