@@ -382,7 +382,10 @@ def fault_of_check(texts, done):
 
 
 # A line of progress.
-PROGRESS = rb"nodes \d+ low \d+ high \d+ open \d+(?: seconds \d+ rate \d+)?\n"
+PROGRESS = (
+    rb"(?:nodes \d+|units \d+ question \d+)(?: low \d+ high \d+(?: open \d+)?)?"
+    rb"(?: seconds \d+ rate \d+)?\n"
+)
 
 
 def fault_of_error(words, done):

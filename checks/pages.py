@@ -79,6 +79,7 @@ OTHERS = {
         "check inverter.v other_pair.cert",
         "check inverter.v other_leaf.cert",
         "check inverter.v other_bound.cert",
+        "sim inverter.v 0 1 --seconds 0",
     ],
     "docs/NETLIST.md": [],
     "examples/README.md": [],

@@ -4,7 +4,7 @@ compares each run with one that has memory enough.
 
 A run may answer the same; or end with status 5, `tdelay: out of memory` and nothing but a beginning
 of its output; or, a search, answer `between` with `cause memory` (`cause budget`, too, where it
-does with memory enough, `cause effort` with conditions) and two figures around the right one, or
+does with memory enough) and two figures around the right one, or
 `exact` with the right time and a certificate that `check` accepts; one with conditions that found
 no pair yet `between none` and the right time or a later one. A table of outputs has some such rows
 then. Where the root of a search is measured and bounded, and its report isn't begun, a growth
@@ -241,8 +241,6 @@ def how_it_ended(tested, command, got):
     # A later search of the same command may have gone on, and ended by its budget as it does where
     # memory suffices.
     causes = ["memory"] + ["budget"] * ("\ncause budget\n" in ample.out)
-    # A search with conditions that finds no room for its lines says that it has no more to try.
-    causes += ["effort"] * ("--keep" in command.words)
     is_cut = got.status == 3 and any(f"\ncause {it}\n" in got.out for it in causes)
     if is_cut and got.written == (None, None):
         if not figures.low <= command.worst <= figures.high:

@@ -11,6 +11,7 @@ answer of one that isn't told to end, and its certificate is accepted.
 """
 
 import os
+import re
 import subprocess
 import sys
 import time
@@ -23,6 +24,9 @@ TWO_LOOKS = 4
 BEFORE = 1.5
 # The longest that a run may take, in seconds.
 LONGEST = 120
+# The seconds of a search that says how far it is, and what it says after ten of them.
+SAID_WITHIN = 12
+SAID = r"(?m)^units \d+ question \d+ low \d+ high \d+ seconds \d+ rate \d+$"
 # Ticks of the processor in a second.
 TICKS = os.sysconf("SC_CLK_TCK")
 
@@ -101,7 +105,18 @@ def one(tested, name, options, most):
     tested.case(*["told"] * (told is not None), *["a certificate"] * (not is_table))
 
 
+def progress(tested):
+    """A case: a solver that works for ten seconds."""
+    path = circuits.path_of("mult_32", tested.folder, None)
+    words = ["worst", path, "--strategy", "refute", "--budget", "10000000", "--progress"]
+    done = tested.run(*words, "--seconds", str(SAID_WITHIN), seconds=LONGEST)
+    if not re.search(SAID, done.err):
+        tested.fault(f"no line says how far the solver is: {done.err[:300]}")
+    tested.case("progress")
+
+
 def work(tested):
+    progress(tested)
     most = TWO_LOOKS * unit(tested)
     for name, options in stops.SLOW:
         one(tested, name, options, most)

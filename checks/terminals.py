@@ -76,7 +76,7 @@ def progress(tested):
     said = tested.run_bytes(*words).err
     tested.expect(f"a pipe: {said!r}", True, plain.fullmatch(said) is not None)
     said = at_terminal(tested, ["worst", "adder.v", "--each", "--progress"], "xterm")
-    rows = re.fullmatch(rb"(?:" + ROW + rb"\n" + re.escape(UP) + rb"){2,}" + ROW + rb"\n", said)
+    rows = re.fullmatch(rb"(?:" + ROW + rb"\n" + re.escape(UP) + rb"each .*\n){3,}", said)
     tested.expect(f"rows in place: {said!r}", True, rows is not None)
 
 

@@ -47,7 +47,7 @@ MAIN = {
     "td_refutation": ["new", "step", "bound", "refuted"],
     "td_refute": ["refute"],
     "td_certificate": ["read", "write"],
-    "td_checker": ["check", "check_told"],
+    "td_checker": ["check", "check_told", "check_told_until"],
     "td_join": ["join_in", "join"],
     "td_incumbent": ["look", "raise", "close"],
     "td_book": ["claim", "claim_id", "split", "close", "graft"],

@@ -90,6 +90,7 @@ CHANGES = "rise fall glitch".split()
 # A row of outputs: its name, its figures, its bound by edges, and how a required moment stands.
 ROW = (
     r"(?m)^each (.*) (?:exact (\d+)|between (\d+) (\d+)) edges (\d+|none)"
+    r"(?: from \S+ to \S+)?"
     r"(?: required (met|violated|open) slack (\S+))?$"
 )
 
@@ -117,10 +118,11 @@ def each_in(name, found, *rest):
     """The value of a row of outputs in JSON."""
     end = rest.index("required") if "required" in rest else len(rest)
     place = rest.index("rise") if "rise" in rest else end
-    figures = [word if word in FIGURES else number_in(word) for word in rest[:place]]
+    pair = rest.index("from") if "from" in rest else place
+    figures = [word if word in FIGURES else number_in(word) for word in rest[:pair]]
     columns = [word if word in CHANGES else column_in(word) for word in rest[place:end]]
     slack = [*rest[end : end + 3], *map(slack_in, rest[end + 3 :])]
-    return [name, found, *figures, *columns, *slack]
+    return [name, found, *figures, *rest[pair:place], *columns, *slack]
 
 
 def value_in(key, text):

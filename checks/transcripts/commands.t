@@ -64,8 +64,13 @@ Help and the version go to standard output. A line with a dot alone stands for a
                             order, separated by commas; all 0 if left out. Or NAME=T, the
                             time of the input of this name, as often as needed
         --vcd <OUT>         Writes the waves of the pair to this file, as a value change dump
+        --net <NAME>        With --vcd: writes the waves of the net of this name alone, as `info` or
+                            the netlist names it. Any number of times: of these, in this order
         --outputs           After the other lines, which output changes last, the first of
                             several: `output NAME`
+        --seconds <N>       Ends the whole run, tables too, after this many seconds of the clock.
+                            What `worst` leaves open then lies between two figures; `sim`, `path` and
+                            `check` end with status 3 and print nothing
         --default-rise <N>  Rise delay in steps of gates without a delay [default: 1]
         --default-fall <N>  Fall delay in steps of gates without a delay [default: 1]
         --hints             After the line of a refusal, prints to standard error what it means and

@@ -98,16 +98,103 @@ As JSON, and from standard input.
   each \z+ [1] exact 5 edges 5
   each \z+ [0] exact 1 edges 1
 
-With `--progress` standard error names each output as it is begun. Standard output is as without it.
+With `--vectors` a row has a pair that shows its figure, in JSON too, where one is known: also of an output that isn't searched.
+
+  $ tdelay worst two.v --each --vectors
+  unit 1 ns
+  defaulted 1
+  each y exact 2 edges 2 from 00 to 11
+  each \z+ [1] exact 5 edges 5 from 10 to 01
+  each \z+ [0] exact 1 edges 1 from 00 to 01
+  $ tdelay worst two.v --each --vectors --json
+  {"proved":true,"unit":"1 ns","defaulted":1,"each":[["y","exact",2,"edges",2,"from","00","to","11"],["\\z+ [1]","exact",5,"edges",5,"from","10","to","01"],["\\z+ [0]","exact",1,"edges",1,"from","00","to","01"]]}
+  $ tdelay worst two.v --vectors --budget 0 --each
+  unit 1 ns
+  defaulted 1
+  each y between 2 2 edges 2 from 00 to 11
+  each \z+ [1] between 4 5 edges 5 from 00 to 11
+  each \z+ [0] between 0 1 edges 1 from 00 to 11
+  [3]
+  $ tdelay worst two.v --each --vectors --changes --required 4
+  unit 1 ns
+  defaulted 1
+  each y exact 2 edges 2 from 00 to 11 rise 2 fall 2 glitch never required met slack 2
+  each \z+ [1] exact 5 edges 5 from 10 to 01 rise 5 fall 4 glitch never required violated slack -1
+  each \z+ [0] exact 1 edges 1 from 00 to 01 rise 1 fall 1 glitch never required met slack 3
+  [6]
+  $ tdelay worst two.v --each --vectors --seconds 0 --keep y=01
+  unit 1 ns
+  defaulted 1
+  each y between none 2 edges 2
+  each \z+ [1] between none 5 edges 5
+  each \z+ [0] between none 1 edges 1
+  [3]
+  $ tdelay worst two.v --each --vectors --strategy refute
+  unit 1 ns
+  defaulted 1
+  each y exact 2 edges 2 from 00 to 11
+  each \z+ [1] exact 5 edges 5 from 10 to 01
+  each \z+ [0] exact 1 edges 1 from 10 to 00
+  $ tdelay worst $NETLISTS/c17.v --each --vectors --seconds 0
+  unit 1 ns
+  defaulted 6
+  each N22 between 2 3 edges 3 from 00000 to 11111
+  each N23 exact 3 edges 3 from 00000 to 11111
+  [3]
+  $ tdelay worst $NETLISTS/c17.v --each --vectors --keep N22=01 --keep N23=01
+  unit 1 ns
+  defaulted 6
+  each N22 exact 3 edges 3 from 00110 to 11010
+  each N23 exact 3 edges 3 from 00110 to 10101
+
+Each pair has the figure, as the run of it says.
+
+  $ for net in c17 adder_8 hazard late_fall passed_pulse; do
+  >   tdelay worst $NETLISTS/$net.v --each --vectors | grep ^each > rows
+  >   while read -r _ name _ figure _ _ _ from _ to; do
+  >     tdelay sim $NETLISTS/$net.v $from $to | grep -qx "last $name $figure" || echo "$net $name $from $to isn't $figure"
+  >   done < rows
+  >   wc -l < rows
+  > done; rm rows
+  2
+  9
+  1
+  1
+  1
+
+It is an option of `--each` alone.
+
+  $ tdelay worst nowhere.v --vectors
+  tdelay: --vectors is part of --each: write --each --vectors
+  [2]
+  $ tdelay worst nowhere.v --vectors --hazards
+  tdelay: --vectors is part of --each: write --each --vectors
+  [2]
+  $ tdelay worst nowhere.v --vectors --each --hazards
+  tdelay: --hazards doesn't go together with --each, --changes or --figures: leave it or them out
+  [2]
+  $ tdelay worst nowhere.v --vectors --each --path
+  tdelay: --each doesn't go together with --path: write --output NAME in place of --each
+  [2]
+  $ tdelay worst two.v --each --vectors --vectors 2>&1 | head -1
+  error: the argument '--vectors' cannot be used multiple times
+
+With `--progress` standard error names each output as it is begun, and has its line once it is found. Standard output is as without it.
 
   $ tdelay worst two.v --each --progress 2> told | grep -c ^each
   3
   $ sed 's/ seconds [0-9]*$/ ../' told
   rows 0 of 3 output y ..
+  each y exact 2 edges 2
   rows 1 of 3 output \z+ [1] ..
+  each \z+ [1] exact 5 edges 5
   rows 2 of 3 output \z+ [0] ..
-  $ tdelay worst two.v --each --changes --json --progress 2> told | cmp - <(tdelay worst two.v --each --changes --json); wc -l < told; rm told
-  3
+  each \z+ [0] exact 1 edges 1
+  $ tdelay worst two.v --each --changes --json --progress 2> told | cmp - <(tdelay worst two.v --each --changes --json); wc -l < told
+  6
+  $ tdelay worst two.v --each --changes --vectors --required 3 --progress > rows 2> told; echo $?
+  6
+  $ grep ^each rows | cmp - <(grep ^each told); rm told rows
 
 Without outputs there is no line.
 

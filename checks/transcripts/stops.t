@@ -204,6 +204,51 @@ With conditions.
   cause time
   [3]
 
+A run and a check have no outcome then. Nothing goes out, and no file is written.
+
+  $ tdelay worst $NETLISTS/c17.v --cert c17.cert > said
+  $ tdelay sim $NETLISTS/c17.v 00000 11111 --seconds 0 --vcd c17.vcd
+  tdelay: out of time
+  [3]
+  $ tdelay path $NETLISTS/c17.v 00000 11111 --seconds 0
+  tdelay: out of time
+  [3]
+  $ tdelay check $NETLISTS/c17.v c17.cert --seconds 0
+  tdelay: out of time
+  [3]
+  $ tdelay check $NETLISTS/c17.v c17.cert --seconds 0 --json
+  tdelay: out of time
+  [3]
+  $ tdelay sim $NETLISTS/c17.v 00000 11111 --seconds 0 --quiet
+  tdelay: out of time
+  [3]
+  $ tdelay check $NETLISTS/c17.v c17.cert --seconds 0 --hints
+  tdelay: out of time
+  the seconds were over before this was done
+    help: more --seconds, or none
+  [3]
+  $ ls c17.vcd
+  ls: cannot access 'c17.vcd': No such file or directory
+  [2]
+
+With more seconds they are as without. What is wrong with the words, or that a file is not there, is said in any case.
+
+  $ tdelay sim $NETLISTS/hazard.v 111 011 --seconds 1000 | cmp - <(tdelay sim $NETLISTS/hazard.v 111 011)
+  $ tdelay path $NETLISTS/hazard.v 111 011 --seconds=1000 | cmp - <(tdelay path $NETLISTS/hazard.v 111 011)
+  $ tdelay check $NETLISTS/c17.v c17.cert --seconds 18446744073709551615
+  accepted 3
+  $ tdelay sim nowhere.v 0 1 --seconds 0
+  tdelay: cannot read nowhere.v
+  [5]
+  $ tdelay bound $NETLISTS/c17.v --seconds 1 2>&1 | head -1
+  error: unexpected argument '--seconds' found
+  $ tdelay sim $NETLISTS/c17.v 00000 11111 --seconds x 2>&1 | head -1
+  error: invalid value 'x' for '--seconds <N>': invalid digit found in string
+  $ tdelay path $NETLISTS/c17.v 00000 11111 --seconds 1 --seconds 2 2>&1 | head -1
+  error: the argument '--seconds <N>' cannot be used multiple times
+  $ tdelay check $NETLISTS/c17.v c17.cert --seconds 2>&1 | head -1
+  error: a value is required for '--seconds <N>' but none was supplied
+
 The file is neither read nor written, so it may be one of the others. Only `worst` has the option.
 
   $ cp $NETLISTS/adder_8.v adder.v
@@ -271,3 +316,32 @@ A search that lacks memory ends with what it has.
   3
   $ grep cause said
   cause memory
+
+With `--memory N` a search by spans takes N MiB at most, about.
+
+  $ tdelay worst $NETLISTS/mult_8.v --strategy refute --memory 0
+  unit 1 ns
+  defaulted 0
+  between 71 121
+  cause memory
+  from 0000000000000000
+  to 1111111111111111
+  nodes 0
+  [3]
+  $ tdelay worst $NETLISTS/mult_8.v --strategy refute --memory 0 --hints 2>&1 > said
+  the search wants more memory than --memory gives it; both figures are true
+    help: more --memory, or none
+    help: or fewer pairs: --first, --second, --hold, --flips; or `tdelay parts`
+  [3]
+  $ tdelay worst $NETLISTS/mult_8.v --strategy refute --memory 0 --keep p9=01 | grep -E '^(between|cause)'
+  between none 121
+  cause memory
+  $ tdelay worst $NETLISTS/mult_8.v --strategy refute --memory 0 --each | grep -E 'p[01] '
+  each p0 exact 4 edges 4
+  each p1 between 0 8 edges 8
+  $ tdelay worst $NETLISTS/mult_8.v --strategy refute --memory 1000 | cmp - <(tdelay worst $NETLISTS/mult_8.v --strategy refute)
+  $ tdelay worst $NETLISTS/mult_8.v --memory 18446744073709551615 | cmp - <(tdelay worst $NETLISTS/mult_8.v)
+  $ tdelay worst $NETLISTS/mult_8.v --memory x 2>&1 | head -1
+  error: invalid value 'x' for '--memory <N>': invalid digit found in string
+  $ tdelay sim $NETLISTS/c17.v 00000 11111 --memory 1 2>&1 | head -1
+  error: unexpected argument '--memory' found

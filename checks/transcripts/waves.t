@@ -32,6 +32,31 @@ the first change stand under #0, those from moment t on under #(t+1).
   $ tdelay sim inverter.v x 0 --vcd - | sed '1,/enddefinitions/d' | paste -sd' '
   #0 $dumpvars x! x" $end #1 0! #3 1"
 
+With `--net` it has these nets alone, in the order in which they are given.
+
+  $ tdelay sim inverter.v 0 1 --vcd - --net y | sed '1,/scope module/d' | paste -sd' '
+  $var wire 1 ! y $end $upscope $end $enddefinitions $end #0 $dumpvars 1! $end #4 0!
+  $ tdelay sim inverter.v 0 1 --net y --vcd both.vcd --net=a
+  unit 1 ns
+  defaulted 0
+  last y 3
+  time 3
+  $ sed '1,/scope module/d' both.vcd | paste -sd' '
+  $var wire 1 ! y $end $var wire 1 " a $end $upscope $end $enddefinitions $end #0 $dumpvars 1! 0" $end #1 1" #4 0!
+  $ tdelay sim inverter.v 0 1 --vcd - --net b
+  tdelay: no net b
+  [2]
+
+It wants a dump.
+
+  $ tdelay sim nowhere.v 0 1 --net y
+  tdelay: --net wants --vcd: write --vcd OUT beside it
+  [2]
+  $ tdelay worst inverter.v --vcd - --net y 2>&1 | head -1
+  error: unexpected argument '--net' found
+  $ tdelay sim inverter.v 0 1 --vcd - --net 2>&1 | head -1
+  error: a value is required for '--net <NAME>' but none was supplied
+
 A pulse of one moment.
 
   $ echo 'module t (a, y); input a; output y; not #1 n(b,a); and #1 g(y,a,b); endmodule' > pulse.v

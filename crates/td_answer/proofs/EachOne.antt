@@ -26,7 +26,7 @@ use Rattle.td_answer.specs.Findings.{found_of, kept_found, IsTrueFound}
 use Rattle.td_answer.specs.Tables.{IsUnanswered}
 
 -- where there is no condition, the pairs that are asked about are the admitted ones
-about : (problem : Problem) (pair : Pair) → IsAdmitted problem.admit pair → IsAskedAbout problem.setting.netlist (all_admitted problem.admit) pair
+pub about : (problem : Problem) (pair : Pair) → IsAdmitted problem.admit pair → IsAskedAbout problem.setting.netlist (all_admitted problem.admit) pair
 about problem pair admitted = record { admitted = admitted; kept = nothing_kept problem.setting.netlist pair }
 
 pub true_found : (problem : Problem) (budget : ℕ) (found : Answer) → IsSoundAnswer problem budget found
@@ -76,3 +76,4 @@ refused_each text reading asked_by setting admit (refusal.OtherCircuit _) asked 
 refused_each text reading asked_by setting admit (refusal.NotJoined _) asked is = elim is [ ]
 refused_each text reading asked_by setting admit (refusal.OtherQuestion _) asked is = elim is [ ]
 refused_each text reading asked_by setting admit refusal.TooLong asked is = elim is [ ]
+refused_each text reading asked_by setting admit refusal.OutOfTime asked is = elim is [ ]

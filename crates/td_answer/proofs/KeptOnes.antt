@@ -25,7 +25,7 @@ use Rattle.td_lines.specs.declared.line.Line.{Line}
 use Rattle.td_lines.specs.declared.line.Line.TheVariants as line
 use Rattle.td_answer.specs.declared.kept_certificate.Told.{Told}
 use Rattle.td_answer.specs.declared.outcome.Outcome.{Outcome}
-use Rattle.td_answer.specs.declared.outcome.Waves.{Waves}
+use Rattle.td_answer.specs.declared.outcome.Dump.{Dump}
 use Rattle.td_answer.specs.declared.status.Status.{Status}
 use Rattle.td_answer.specs.declared.status.Status.TheVariants as status
 use Rattle.td_answer.specs.Heads.{head_lines}
@@ -55,7 +55,7 @@ module _ (circuit : Numbered) (admit : Admitted) (told : Told) (ended : Ended) (
   abbrev asking : Asking
   asking = record { admit = admit; keep = told.keep.items }
 
-  abbrev Figure : List Line → Option Waves → Status → Type 0
+  abbrev Figure : List Line → Option Dump → Status → Type 0
   Figure lines dump ending = HasFigureAmong (setting circuit) asking search lines dump ending
 
   -- a bound stays one where it is greater

@@ -21,7 +21,11 @@ pub mod Cuts
 pub mod Writable
 pub mod Gathered
 pub mod Reporting
+pub mod Lasting
+pub mod Keepings
+pub mod Refused
 pub mod EachOne
+pub mod Sighted
 pub mod Outlooks
 pub mod OutputNumbers
 pub mod Conditioned

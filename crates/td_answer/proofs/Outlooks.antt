@@ -1,6 +1,6 @@
 -- What is known of an output before it is searched is true of it alone.
 use Rattle.std.proofs.Common.{◌≡◌, ◌≤◌, ◌<◌, ◌*◌, ℕ, zero, suc, ◌∙◌, Bool, false, true, List, [], ◌∷◌, length, map, refl, sym, ap, subst, arith, Option, Some, None}
-use Rattle.std.specs.Prelude.{slice_get, unwrap_or, IfSome}
+use Rattle.std.specs.Prelude.{slice_get, unwrap_or, option_map, IfSome}
 use Rattle.std.proofs.lemmas.Option.{none-some}
 use Rattle.td_gates.specs.Table.{level_from}
 use Rattle.td_gates.specs.Wave.{Wave, last}
@@ -13,7 +13,6 @@ use Rattle.td_circuit.specs.Numbering.{Numbered, setting, nets, with_named_outpu
 use Rattle.td_circuit.specs.NetValues.{net_value, net_wave}
 use Rattle.td_circuit.proofs.Values.{value_at}
 use Rattle.td_circuit.proofs.Moments.{numbering_asked}
-use Rattle.td_run.specs.Runs.{NetWaves}
 use Rattle.td_domain.specs.declared.cubes.Trit.{Trit}
 use Rattle.td_domain.specs.Pairs.{Pair}
 use Rattle.td_domain.specs.Cubes.{AllowsBits}
@@ -30,12 +29,14 @@ use Rattle.td_edges.specs.EdgeLaws.{covers_input, covers_constant, covers_gate, 
 use Rattle.td_refutation.specs.declared.conditions.NamedCondition.{NamedCondition}
 use Rattle.td_refutation.specs.Asking.{Asking, all_admitted}
 use Rattle.td_refutation.proofs.Asking.{nothing_kept}
-use Rattle.td_answer.specs.Outlooks.{IsSample, IsLow, IsTrueLow, IsTrueOutlook}
+use Rattle.td_answer.specs.Outlooks.{HasLow, IsSample, IsLow, IsTrueLow, IsTrueOutlook, shown}
 use Rattle.td_refute.specs.Kept.{IsBoundAmong}
 use Rattle.td_lines.specs.declared.line.Found.TheVariants as found
 use Rattle.td_answer.specs.Findings.{IsTrueFound}
 use Rattle.td_answer.specs.Tables.{IsTrueBound}
 use Rattle.td_answer.specs.declared.outlook.Outlook.{Outlook}
+use Rattle.td_answer.specs.declared.sample.Sample.{Sample}
+use Rattle.td_answer.proofs.Sighted.{some_has}
 
 only : (a : Option ℕ) → a ≡ greater a (Some 0)
 only None = refl
@@ -87,15 +88,15 @@ pub pair_long : (circuit : Numbered) (admit : Admitted) (pair : Pair) → length
 pair_long circuit admit pair fit held is =
     as_long (length circuit.netlist.inputs) admit.pins pair.first pair.second (pins_long admit.pins admit.held fit held) is.pinned
 
--- a run that is there is a sample, and has a wave for each net
-pub sampled : (circuit : Numbered) (admit : Admitted) (run : Option NetWaves) → IfSome run (IsSample circuit admit)
-    → (found : NetWaves) → run ≡ Some found → IsSample circuit admit found
-sampled circuit admit run is found e = rw e at is
+-- what is there is a sample, and its run has a wave for each net
+pub sampled : (circuit : Numbered) (admit : Admitted) (sample : Option Sample) → IfSome sample (IsSample circuit admit)
+    → (found : Sample) → sample ≡ Some found → IsSample circuit admit found
+sampled circuit admit sample is found e = rw e at is
 
-pub wave_within : (circuit : Numbered) (admit : Admitted) (run : Option NetWaves) (net : ℕ) → IfSome run (IsSample circuit admit)
-    → net < length (nets circuit) → IfSome run (λ found. net < length found.waves)
+pub wave_within : (circuit : Numbered) (admit : Admitted) (sample : Option Sample) (net : ℕ) → IfSome sample (IsSample circuit admit)
+    → net < length (nets circuit) → IfSome sample (λ found. net < length found.run.waves)
 wave_within circuit admit None net is less = tt
-wave_within circuit admit (Some run) net is less = omega (arith, is.whole, less)
+wave_within circuit admit (Some sample) net is less = omega (arith, is.whole, less)
 
 module _ (circuit : Numbered) (numbering : IsNumbering circuit) where
   asked_now : CanBeAsked circuit circuit.netlist.outputs circuit.outputs
@@ -156,29 +157,30 @@ module _ (circuit : Numbered) (numbering : IsNumbering circuit) where
           is_latest = omega (arith, same);
         }
 
-    -- so it has that delay of an admitted pair
-    pub low_alone : (admit : Admitted) (run : Option NetWaves) → ((found : NetWaves) → run ≡ Some found → IsSample circuit admit found)
-        → (low : Option ℕ) → IsLow run net low → IsTrueLow (alone (setting circuit) name) admit low
-    low_alone admit None sample low is moment e = absurd (none-some moment (sym is ∙ e))
-    low_alone admit (Some run) sample low is moment e =
-        let shown = sample run refl in
-        let same : unwrap_or (last is.0) 0 ≡ moment = some-same _ _ (sym is.2 ∙ e) in (
-          shown.pair,
-          record {
-            asked = record { admitted = shown.admitted; kept = nothing_kept (alone (setting circuit) name).netlist shown.pair };
-            delays = subst (λ (delay : ℕ). IsDelayOfBits (alone (setting circuit) name) shown.pair.first shown.pair.second delay) same
-                (delay_alone shown.pair run.waves shown.whole shown.runs is.0 is.1);
-          },
-        )
+    -- so it has that delay of the admitted pair
+    pub low_alone : (admit : Admitted) (sample : Option Sample) → ((found : Sample) → sample ≡ Some found → IsSample circuit admit found)
+        → (low : Option ℕ) → IsLow sample net low → HasLow (alone (setting circuit) name) admit (option_map (λ sample. sample.pair) sample) low
+    low_alone admit None is_sample low is moment e = absurd (none-some moment (sym is ∙ e))
+    low_alone admit (Some sample) is_sample low is moment e =
+        let known = is_sample sample refl in
+        let same : unwrap_or (last is.0) 0 ≡ moment = some-same _ _ (sym is.2 ∙ e) in
+        record {
+          asked = record { admitted = known.admitted; kept = nothing_kept (alone (setting circuit) name).netlist sample.pair };
+          delays = subst (λ (delay : ℕ). IsDelayOfBits (alone (setting circuit) name) sample.pair.first sample.pair.second delay) same
+              (delay_alone sample.pair sample.run.waves known.whole known.runs is.0 is.1);
+        }
 
     -- what is known of the output
     pub true_outlook : (fit : AreMoments circuit.netlist circuit.moments) (admit : Admitted) (count : length admit.pins ≡ 2 * length circuit.netlist.inputs)
         (front : List Signal) → length front ≡ length (nets circuit)
         → AreFirstSignals edge_functions (λ signal. span_reach signal.changes) circuit admit.pins front
-        → (run : Option NetWaves) → ((found : NetWaves) → run ≡ Some found → IsSample circuit admit found)
+        → (sample : Option Sample) → ((found : Sample) → sample ≡ Some found → IsSample circuit admit found)
         → (signal : Signal) → slice_get front net ≡ Some signal → (outlook : Outlook) → outlook.edges ≡ edge_functions.last_of signal
-        → IsLow run net outlook.low → IsTrueOutlook (alone (setting circuit) name) admit outlook
-    true_outlook fit admit count front whole is_front run sample signal at_front outlook last low = record {
-      bound = λ moment is. bound_alone fit admit.pins count front whole is_front signal at_front moment (sym last ∙ is);
-      low = low_alone admit run sample outlook.low low;
-    }
+        → IsLow sample net outlook.low → shown outlook.pair ≡ option_map (λ sample. sample.pair) sample
+        → IsTrueOutlook (alone (setting circuit) name) admit outlook
+    true_outlook fit admit count front whole is_front sample is_sample signal at_front outlook last low pair =
+        let has : HasLow (alone (setting circuit) name) admit (shown outlook.pair) outlook.low = rw pair (low_alone admit sample is_sample outlook.low low) in record {
+          bound = λ moment is. bound_alone fit admit.pins count front whole is_front signal at_front moment (sym last ∙ is);
+          low = λ moment is. some_has (alone (setting circuit) name) (all_admitted admit) moment (shown outlook.pair) (has moment is);
+          pair = has;
+        }

@@ -10,10 +10,11 @@ use Rattle.td_certificate.specs.Spelling.{HasSpelling}
 use Rattle.td_lines.specs.declared.line.Line.{Line}
 use Rattle.td_request.specs.declared.request.Search.{Search}
 use Rattle.td_answer.specs.declared.outcome.Outcome.{Outcome}
-use Rattle.td_answer.specs.declared.outcome.Waves.{Waves}
+use Rattle.td_answer.specs.declared.outcome.Dump.{Dump}
+use Rattle.td_answer.specs.declared.outcome.Dump.TheVariants.{Whole, Chosen}
 use Rattle.td_answer.specs.Dumps.{IsDumpWhere}
 use Rattle.td_answer.specs.Certified.{IsCertified}
-use Rattle.td_answer.specs.Writing.{HasRun, CanBeWritten}
+use Rattle.td_answer.specs.Writing.{HasDump, CanBeWritten}
 
 -- no certificate
 none_spelled : (certificate : Option Certificate) → certificate ≡ None → IfSome certificate HasSpelling
@@ -26,11 +27,12 @@ certificate_spelled text reading search report None is = tt
 certificate_spelled text reading search report (Some certificate) is = is.written
 
 -- the dump that is asked for
-dump_written : (is_asked : Bool) (setting : Setting) (IsRun : (Net → Wave) → Type 0) (dump : Option Waves) → IsDumpWhere is_asked setting IsRun dump
-    → IfSome dump HasRun
-dump_written false setting IsRun dump none = subst (λ (d : Option Waves). IfSome d HasRun) (sym none) tt
+dump_written : (is_asked : Bool) (setting : Setting) (IsRun : (Net → Wave) → Type 0) (dump : Option Dump) → IsDumpWhere is_asked setting IsRun dump
+    → IfSome dump HasDump
+dump_written false setting IsRun dump none = subst (λ (d : Option Dump). IfSome d HasDump) (sym none) tt
 dump_written true setting IsRun None is = tt
-dump_written true setting IsRun (Some dump) is = is.has
+dump_written true setting IsRun (Some (Whole dump)) is = is.has
+dump_written true setting IsRun (Some (Chosen dump)) is = absurd is
 
 pub searched_written : (text : List ℕ) (reading : Reading) (search : Search) (is_asked : Bool) (setting : Setting) (IsRun : (Net → Wave) → Type 0) (outcome : Outcome)
     → IsCertified text reading search outcome.report outcome.certificate → IsDumpWhere is_asked setting IsRun outcome.dump

@@ -7,6 +7,8 @@ use Rattle.td_lines.specs.declared.line.Cause.TheVariants as why
 use Rattle.td_lines.specs.declared.line.Line.{Line}
 use Rattle.td_lines.specs.declared.line.Line.TheVariants as line
 use Rattle.td_answer.specs.declared.ended.Ended.{Ended}
+use Rattle.td_answer.specs.declared.refusal.Refusal.{Refusal}
+use Rattle.td_answer.specs.declared.refusal.Refusal.TheVariants as refusal
 
 -- whether so many nodes and the search's units of work reach its budget together
 abbrev pub has_used_up : Ended → ℕ → Bool
@@ -27,3 +29,7 @@ work_lines ended = cond ended.search.now.shown.work (line.Units ended.work ∷ [
 abbrev pub TellsWork : Bool → List Line → Type 0
 TellsWork false lines = lines ≡ []
 TellsWork true lines = (units : ℕ) × (lines ≡ line.Units units ∷ [])
+
+-- a request is out of time only where its stop can be set
+abbrev pub EndsByStop : Bool → Refusal → Type 0
+EndsByStop can_be_set reason = reason ≡ refusal.OutOfTime → can_be_set ≡ true

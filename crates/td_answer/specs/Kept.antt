@@ -27,7 +27,7 @@ use Rattle.td_answer.specs.Requirements.{TellsRequired}
 use Rattle.td_answer.specs.Runs.{TellsPair, RunsPair}
 use Rattle.td_answer.specs.Dumps.{IsDumpWhere}
 use Rattle.td_answer.specs.declared.outcome.Outcome.{Outcome}
-use Rattle.td_answer.specs.declared.outcome.Waves.{Waves}
+use Rattle.td_answer.specs.declared.outcome.Dump.{Dump}
 use Rattle.td_answer.specs.declared.status.Status.{Status}
 use Rattle.td_answer.specs.declared.status.Status.TheVariants as status
 
@@ -98,12 +98,12 @@ pub record IsNone (setting : Setting) (asking : Asking) (lines : List Line) : Ty
   pub none : AsksNone setting asking
 
 -- the dump that is asked for has the waves of the pair
-abbrev pub DumpsPair : Search → Setting → Pair → Option Waves → Type 0
+abbrev pub DumpsPair : Search → Setting → Pair → Option Dump → Type 0
 DumpsPair search setting pair dump = IsDumpWhere (is_some search.dump) setting (RunsPair setting pair) dump
 
 -- The search ends with status 1 just where no pair is asked about; where nothing is required, it ends
 -- with status 0 just where its figure is exact. Where no pair is known, there is no dump.
-abbrev pub HasFigureAmong : Setting → Asking → Search → List Line → Option Waves → Status → Type 0
+abbrev pub HasFigureAmong : Setting → Asking → Search → List Line → Option Dump → Status → Type 0
 HasFigureAmong setting asking search lines dump ending =
     ((pair : Pair) × IsExactAmong setting asking search pair lines ending × DumpsPair search setting pair dump)
     ⊎ ((pair : Pair) × IsBetweenAmong setting asking search pair lines ending × DumpsPair search setting pair dump)

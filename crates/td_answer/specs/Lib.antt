@@ -20,6 +20,7 @@ pub mod Conditions
 pub mod Requirements
 pub mod Searches
 pub mod Findings
+pub mod Sightings
 pub mod Columns
 pub mod Tables
 pub mod Outlooks

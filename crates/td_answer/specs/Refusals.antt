@@ -213,6 +213,7 @@ reason_text (refusal.OtherCircuit name) = other_circuit_text name.now
 reason_text (refusal.NotJoined fault) = unjoined_text fault
 reason_text (refusal.OtherQuestion found) = other_question_text found
 reason_text refusal.TooLong = codes "too many nodes"
+reason_text refusal.OutOfTime = codes "out of time"
 
 -- a line
 unfoldable pub refusal_text : Refusal → List ℕ

@@ -62,3 +62,4 @@ status_of (refusal.OtherCircuit name) = Rejected
 status_of (refusal.NotJoined fault) = Rejected
 status_of (refusal.OtherQuestion difference) = Rejected
 status_of refusal.TooLong = Rejected
+status_of refusal.OutOfTime = Between

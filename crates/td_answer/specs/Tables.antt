@@ -27,6 +27,7 @@ use Rattle.td_answer.specs.Requirements.{IsStanding, requirement_of}
 use Rattle.td_answer.specs.Rows.{HasRows}
 use Rattle.td_answer.specs.Findings.{IsTrueFound, is_closed}
 use Rattle.td_answer.specs.Columns.{HasChanges, asks_figures, are_closed}
+use Rattle.td_answer.specs.Sightings.{HasVectors}
 use Rattle.td_answer.specs.declared.outcome.Outcome.{Outcome}
 use Rattle.td_answer.specs.declared.refusal.Refusal.{Refusal}
 use Rattle.td_answer.specs.declared.refusal.Refusal.TheVariants as refusal
@@ -54,12 +55,13 @@ SaysStanding setting asking (Some moment) None = ⊥
 SaysStanding setting asking (Some moment) (Some said) =
     (said.moment ≡ moment) × IsStanding (IsBoundAmong setting asking) (SomeHas setting asking) moment said.standing
 
--- The row is about the output of this name, and true where the netlist has this output alone; it has
--- the columns of changes where the table asks for them, and says how the required moment stands by its
--- figures.
+-- The row is about the output of this name, and true where the netlist has this output alone; it has a
+-- pair that shows its figure, and the columns of changes, where the table asks for them, and says how the
+-- required moment stands by its figures.
 pub record IsTrueRow (setting : Setting) (asking : Asking) (search : Search) (output : Name) (row : Row) : Type 0 where
   pub named : row.output ≡ label output
   pub figures : AreTrueFigures (alone setting output) asking row.found row.edges
+  pub pair : HasVectors search.shown.vectors (alone setting output) asking row.found row.pair
   pub changes : HasChanges search.table (alone setting output) asking row.changes
   pub by_figures : row.required ≡ requirement_of search.required row.found
   pub stands : SaysStanding (alone setting output) asking search.required row.required
@@ -118,6 +120,10 @@ pub record IsTrueTable (text : List ℕ) (reading : Reading) (search : Search) (
   pub has : AreEach rows lines
   pub is : outcome.report ≡ head_lines setting.netlist ++ lines
   pub ends : outcome.status ≡ table_ending (asks_figures search.table) rows
+
+-- a watch heard of the rows of the report, where there are any
+abbrev pub HeardRows : (List Row → Type 0) → List Line → Type 0
+HeardRows Heard report = (rows : List Row) × (front lines : List Line) × AreEach rows lines × (report ≡ front ++ lines) × Heard rows
 
 -- why the search for an output has no answer
 abbrev pub IsUnanswered : Admitted → Refusal → Type 0

@@ -96,4 +96,5 @@ IsTrueCheck text reading told spelled outcome = IsTrueVerdict text reading told 
 abbrev pub IsRefusedCheck : List ℕ → Reading → List ℕ → Refusal → Type 0
 IsRefusedCheck text reading spelled (refusal.Check fault) = IsCheckFault text reading spelled fault
 IsRefusedCheck text reading spelled refusal.OutOfMemory = Unit {0}
+IsRefusedCheck text reading spelled refusal.OutOfTime = Unit {0}
 IsRefusedCheck text reading spelled other = ⊥

@@ -44,7 +44,7 @@ pub(crate) struct Inquiry<'a, 'w> {
 pub(crate) struct Alone<'a, 'w> {
     pub(crate) circuit: &'a Circuit,
     pub(crate) net: u64,
-    pub(crate) outlook: Outlook,
+    pub(crate) outlook: Outlook<'a>,
     pub(crate) inquiry: Inquiry<'a, 'w>,
 }
 

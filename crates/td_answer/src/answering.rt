@@ -5,6 +5,7 @@ ghost use Rattle.td_search.specs.Problems.{Problem};
 ghost use Rattle.td_question.specs.Asking.{IsAsked};
 ghost use Rattle.td_answer.specs.Searches.{IsRefusedSearch};
 ghost use Rattle.td_answer.specs.Filled.{filled};
+ghost use Rattle.td_answer.specs.Ends.{EndsByStop};
 ghost use Rattle.td_answer.specs.Outcomes.{IsPlain, IsCheckedTrue, IsRefusedChecked, IsSearchedTrue, IsCertifiedSearch, IsSearched, IsTrueOutcome, HasCertificate, IsRefused};
 ghost use Rattle.td_answer.specs.Writing.{CanBeWritten};
 
@@ -50,6 +51,7 @@ pub fn answer<'n, 'w, 'c, W: TableWatch, R: Threads + Wait + Sync>(
     ensures certified { IfOk result (HasCertificate request.now texts.now) }
     ensures written { IfOk result CanBeWritten }
     ensures refusal { IfErr result (IsRefused request.now texts.now) }
+    ensures stopped { IfErr result (EndsByStop stop.now.can_be_set) }
     // The progress that the watch got, if any, is true of what is asked.
     ensures reported { (watch.new ≡ watch.old)
         ⊎ ((asked : Problem) × IsSearched (filled texts.now.keep request.now.command) texts.now.netlist.now request.now.reading asked × W.reported asked watch.old watch.new) }
@@ -67,28 +69,38 @@ pub fn answer<'n, 'w, 'c, W: TableWatch, R: Threads + Wait + Sync>(
                 watch,
             )
         }
-        _ => answer_plain(alloc, request, texts),
+        _ => answer_plain(alloc, request, texts, stop),
     }
 }
 
-/// As `answer`, without threads, of a request that is no search.
+/// As `answer`, without threads, of a request that is no search. Once the stop is set, the run of a
+/// pair and the check of a certificate end without an outcome.
 pub fn answer_plain<'n, 'w, 'c>(
     alloc: Global,
     request: &Request<'w>,
     texts: &Texts<'n, 'c, 'w>,
+    stop: &Stop,
 ) -> Result<Outcome, Refusal<'n, 'w>>
     requires { IsPlain request.now.command }
     ensures says { IfOk result (IsTrueOutcome request.now texts.now) }
     ensures certified { IfOk result (HasCertificate request.now texts.now) }
     ensures written { IfOk result CanBeWritten }
     ensures refusal { IfErr result (IsRefused request.now texts.now) }
+    ensures stopped { IfErr result (EndsByStop stop.now.can_be_set) }
 {
     let text = texts.netlist;
     let reading = &request.reading;
     match &request.command {
-        Command::Check(asked) => return checked(alloc, text, reading, asked, texts.certificates),
-        Command::Sim(asked) => return sim(alloc, text, reading, asked),
-        Command::Path(asked) => return path(alloc, text, reading, asked),
+        Command::Check(asked) => return checked(
+            alloc,
+            text,
+            reading,
+            asked,
+            texts.certificates,
+            stop,
+        ),
+        Command::Sim(asked) => return sim(alloc, text, reading, asked, stop),
+        Command::Path(asked) => return path(alloc, text, reading, asked, stop),
         Command::Bound(asked) => return bounds(alloc, text, reading, asked),
         Command::Parts(asked) => {
             let asked = filled_parts(asked, texts.keep);
@@ -125,21 +137,24 @@ fn searched<'n, 'w, W: TableWatch, R: Threads + Wait + Sync>(
     }
 }
 
-/// The verdict on the certificate's text, if it is there.
+/// The verdict on the certificate's text, if it is there, unless the stop is set before it is
+/// known.
 fn checked<'n, 'w>(
     alloc: Global,
     text: &'n [u8],
     reading: &Reading<'_>,
     asked: &Check<'w>,
     certificates: &[Vec<u8>],
+    stop: &Stop,
 ) -> Result<Outcome, Refusal<'n, 'w>>
     ensures says { IfOk result (IsCheckedTrue text.now reading.now asked.now (slice_get certificates.now 0)) }
     ensures certified { IfOk result (λ outcome. outcome.certificate ≡ Nothing) }
     ensures written { IfOk result CanBeWritten }
     ensures refusal { IfErr result (IsRefusedChecked text.now reading.now asked.now (slice_get certificates.now 0)) }
+    ensures stopped { IfErr result (EndsByStop stop.now.can_be_set) }
 {
     let Some(certificate) = certificates.first() else {
         return Err(Refusal::Unread(asked.certificate));
     };
-    verdict_on(alloc, text, reading, asked.told, certificate)
+    verdict_on(alloc, text, reading, asked.told, certificate, stop)
 }

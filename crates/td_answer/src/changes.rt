@@ -107,7 +107,7 @@ pub(crate) fn changes_in<'n, 'w, R: Threads + Wait + Sync>(
     rt: &R,
     alloc: Global,
     circuit: &Circuit,
-    outlook: Outlook,
+    outlook: Outlook<'_>,
     inquiry: Inquiry<'_, 'w>,
 ) -> Result<Option<Changes>, Refusal<'n, 'w>>
     requires held { length inquiry.admit.now.held ≡ length circuit.now.netlist.inputs }

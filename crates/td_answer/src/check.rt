@@ -1,6 +1,7 @@
 //! The verdict on a certificate.
 
 ghost use Rattle.std.specs.Prelude.{◌≡◌, IfOk, IfErr, None as Nothing};
+ghost use Rattle.td_answer.specs.Ends.{EndsByStop};
 ghost use Rattle.td_answer.specs.Verdicts.{AreRefusedLines, AreVerdictLines, ending_by, IsTrueCheck, IsRefusedCheck};
 ghost use Rattle.td_answer.specs.Writing.{CanBeWritten};
 
@@ -10,9 +11,10 @@ use crate::refusal::Refusal;
 use crate::status::Status;
 use std::alloc::{AllocError, Global};
 use td_certificate::Certificate;
-use td_checker::{Verdict, check_told};
+use td_checker::{Verdict, check_told_until};
 use td_lines::{Line, Report};
 use td_reading::{Reading, Told};
+use td_stop::Stop;
 
 /// The report of a certificate that is refused.
 fn refused(alloc: Global, verdict: Verdict) -> Result<Report, AllocError>
@@ -50,20 +52,25 @@ fn ending(verdict: Verdict) -> Status
     }
 }
 
-/// The verdict on a certificate's text.
+/// The verdict on a certificate's text, unless the stop is set before it is known.
 pub(crate) fn verdict_on<'n, 'w>(
     alloc: Global,
     text: &'n [u8],
     reading: &Reading<'_>,
     told: Told,
     certificate: &[u8],
+    stop: &Stop,
 ) -> Result<Outcome, Refusal<'n, 'w>>
     ensures says { IfOk result (IsTrueCheck text.now reading.now told certificate.now) }
     ensures certified { IfOk result (λ outcome. outcome.certificate ≡ Nothing) }
     ensures written { IfOk result CanBeWritten }
     ensures refusal { IfErr result (IsRefusedCheck text.now reading.now certificate.now) }
+    ensures stopped { IfErr result (EndsByStop stop.now.can_be_set) }
 {
-    let checked = check_told(alloc, text, reading, told, certificate)?;
+    let found = check_told_until(alloc, text, reading, told, certificate, stop)?;
+    let Some(checked) = found else {
+        return Err(Refusal::OutOfTime);
+    };
     let report = report_of(alloc, checked.verdict, &checked.certificate)?;
     Ok(Outcome {
         report,

@@ -1,6 +1,6 @@
 //! The worst delay of each output by itself, as a table.
 
-ghost use Rattle.std.specs.Prelude.{◌≡◌, ◌⊎◌, true, ◌<◌, length, slice_get, Some, IfOk, IfErr, OnOk, None as Nothing};
+ghost use Rattle.std.specs.Prelude.{◌≡◌, ◌⊎◌, [], true, ◌<◌, length, slice_get, Some, IfOk, IfErr, OnOk, None as Nothing};
 ghost use Rattle.std.specs.List.{AllZip};
 ghost use Rattle.td_nets.specs.Netlist.{Name as Named};
 ghost use Rattle.td_circuit.specs.Numbering.{setting};
@@ -12,12 +12,15 @@ ghost use Rattle.td_question.specs.Keeping.{count_nets};
 ghost use Rattle.td_answer.specs.Additions.{AddsLines};
 ghost use Rattle.td_answer.specs.Searches.{IsRefusedSearch};
 ghost use Rattle.td_answer.specs.Columns.{pairs_of};
-ghost use Rattle.td_answer.specs.Findings.{found_of, IsTrueFound};
+ghost use Rattle.td_answer.specs.Findings.{found_of, kept_found};
+ghost use Rattle.td_answer.specs.Lines.{pair_in};
 ghost use Rattle.td_answer.specs.Outlooks.{IsTrueOutlook};
-ghost use Rattle.td_answer.specs.Tables.{is_open, is_late, is_settled, is_violated, any_violated, open_ending, table_ending, IsTrueRow, AreEach, IsUnanswered, IsTrueTable};
+ghost use Rattle.td_answer.specs.Sightings.{IsTrueSighting, kept_pair, sighted};
+ghost use Rattle.td_answer.specs.Tables.{is_open, is_late, is_settled, is_violated, any_violated, open_ending, table_ending, IsTrueRow, AreEach, HeardRows, IsUnanswered, IsTrueTable};
 ghost use Rattle.td_answer.specs.Writing.{CanBeWritten};
 
 use crate::alone::{Inquiry, kept_found};
+use crate::answers::pair_in;
 use crate::changes::{are_closed, asks_figures, changes_in, is_closed};
 use crate::head::begun;
 use crate::names::label;
@@ -25,6 +28,8 @@ use crate::outcome::Outcome;
 use crate::outlook::{Outlook, outlooks, unsearched};
 use crate::refusal::Refusal;
 use crate::requirement::requirement_of;
+use crate::sample::sample_of;
+use crate::sighting::{Sighting, kept_pair, sighted};
 use crate::status::Status;
 use crate::watch::{Begun, TableWatch};
 use crate::worst::{limits_of, method_of};
@@ -40,7 +45,7 @@ use td_request::Search;
 use td_search::Answer;
 use td_source::EachOutput;
 use td_stop::Stop;
-use td_worst::{KeptAnswer, KeptQuestion, Question};
+use td_worst::{KeptAnswer, KeptFound, KeptQuestion, Question};
 
 /// What an answer says of the worst delay.
 fn found_of(answer: &Answer) -> Found
@@ -55,16 +60,36 @@ fn found_of(answer: &Answer) -> Found
     }
 }
 
+/// What an answer says of the worst delay, with its pair where that is asked for.
+fn sighting_of(
+    alloc: Global,
+    is_asked: bool,
+    found: td_worst::Found,
+) -> Result<Sighting, AllocError>
+    ensures { IfOk result (λ seen. seen ≡ sighted is_asked (found_of found.answer) (Some (pair_in found.answer))) }
+{
+    let known = found_of(&found.answer);
+    sighted(alloc, is_asked, known, Some(pair_in(&found.answer)))
+}
+
+/// The same of an answer about the pairs that keep conditions.
+fn kept_sighting(alloc: Global, is_asked: bool, kept: KeptFound) -> Result<Sighting, AllocError>
+    ensures { IfOk result (λ seen. seen ≡ sighted is_asked (kept_found kept.answer) (kept_pair kept.answer)) }
+{
+    let known = kept_found(&kept.answer);
+    sighted(alloc, is_asked, known, kept_pair(&kept.answer))
+}
+
 /// What a search finds of the pairs of a circuit that are asked about.
 fn searched<'n, 'w, R: Threads + Wait + Sync>(
     rt: &R,
     alloc: Global,
     circuit: &Circuit,
     inquiry: Inquiry<'_, 'w>,
-) -> Result<Found, Refusal<'n, 'w>>
+) -> Result<Sighting, Refusal<'n, 'w>>
     requires held { length inquiry.admit.now.held ≡ length circuit.now.netlist.inputs }
     requires fit { are_fit (count_nets circuit.now.netlist) inquiry.keep.now ≡ true }
-    ensures found { IfOk result (IsTrueFound (setting circuit.now) (pairs_of inquiry.entry)) }
+    ensures found { IfOk result (IsTrueSighting inquiry.entry.search.now.shown.vectors (setting circuit.now) (pairs_of inquiry.entry)) }
     ensures refusal { IfErr result (IsUnanswered inquiry.entry.admit.now) }
 {
     let Inquiry {
@@ -73,6 +98,7 @@ fn searched<'n, 'w, R: Threads + Wait + Sync>(
         search,
         limits,
     } = inquiry;
+    let is_asked = search.shown.vectors;
     if !keep.is_empty() {
         let question = KeptQuestion {
             circuit,
@@ -81,7 +107,8 @@ fn searched<'n, 'w, R: Threads + Wait + Sync>(
             required: search.required,
         };
         let kept = td_worst::worst_kept(rt, alloc, question, limits)?;
-        return Ok(kept_found(&kept.answer));
+        let seen = kept_sighting(alloc, is_asked, kept)?;
+        return Ok(seen);
     }
     let question = Question {
         circuit,
@@ -90,7 +117,8 @@ fn searched<'n, 'w, R: Threads + Wait + Sync>(
         required: search.required,
     };
     let found = td_worst::worst(rt, alloc, question, limits, &mut Unwatched)?;
-    Ok(found_of(&found.answer))
+    let shown = sighting_of(alloc, is_asked, found)?;
+    Ok(shown)
 }
 
 /// What is found of the output that a circuit is asked about alone.
@@ -98,17 +126,19 @@ fn found_in<'n, 'w, R: Threads + Wait + Sync>(
     rt: &R,
     alloc: Global,
     circuit: &Circuit,
-    outlook: Outlook,
+    outlook: Outlook<'_>,
     inquiry: Inquiry<'_, 'w>,
-) -> Result<Found, Refusal<'n, 'w>>
+) -> Result<Sighting, Refusal<'n, 'w>>
     requires held { length inquiry.admit.now.held ≡ length circuit.now.netlist.inputs }
     requires fit { are_fit (count_nets circuit.now.netlist) inquiry.keep.now ≡ true }
     requires outlook { IsTrueOutlook (setting circuit.now) inquiry.admit.now outlook }
-    ensures found { IfOk result (IsTrueFound (setting circuit.now) (pairs_of inquiry.entry)) }
+    ensures found { IfOk result (IsTrueSighting inquiry.entry.search.now.shown.vectors (setting circuit.now) (pairs_of inquiry.entry)) }
     ensures refusal { IfErr result (IsUnanswered inquiry.entry.admit.now) }
 {
     if let Some(found) = unsearched(outlook, inquiry) {
-        return Ok(found);
+        let is_asked = inquiry.search.shown.vectors;
+        let seen = sighted(alloc, is_asked, found, outlook.pair)?;
+        return Ok(seen);
     }
     searched(rt, alloc, circuit, inquiry)
 }
@@ -119,7 +149,7 @@ fn row_of<'n, 'w, R: Threads + Wait + Sync>(
     alloc: Global,
     outputs: &mut EachOutput,
     place: usize,
-    outlook: Outlook,
+    outlook: Outlook<'_>,
     inquiry: Inquiry<'_, 'w>,
 ) -> Result<Row, Refusal<'n, 'w>>
     requires place { place < length outputs.old.whole.netlist.outputs }
@@ -135,13 +165,14 @@ fn row_of<'n, 'w, R: Threads + Wait + Sync>(
     let output = label(alloc, &outputs.names()[place])?;
     outputs.ask(alloc, place)?;
     let circuit = outputs.circuit();
-    let found = found_in(rt, alloc, circuit, outlook, inquiry)?;
+    let Sighting { found, pair } = found_in(rt, alloc, circuit, outlook, inquiry)?;
     let changes = changes_in(rt, alloc, circuit, outlook, inquiry)?;
     let required = requirement_of(inquiry.search.required, found);
     Ok(Row {
         output,
         found,
         edges: outlook.edges,
+        pair,
         changes,
         required,
     })
@@ -150,7 +181,8 @@ fn row_of<'n, 'w, R: Threads + Wait + Sync>(
 /// Tells a watch that the row of the output at this place is begun, unless memory runs out.
 fn tell<W: TableWatch>(alloc: Global, outputs: &EachOutput, place: usize, watch: &mut W)
     requires { place < length outputs.now.whole.netlist.outputs }
-    ensures { (asked : Problem) → W.reported asked watch.old watch.new }
+    ensures reported { (asked : Problem) → W.reported asked watch.old watch.new }
+    ensures heard { W.heard [] watch.old watch.new }
 {
     let names = outputs.names();
     let Ok(output) = label(alloc, &names[place]) else {
@@ -163,12 +195,12 @@ fn tell<W: TableWatch>(alloc: Global, outputs: &EachOutput, place: usize, watch:
     });
 }
 
-/// A row for each output, in order.
+/// A row for each output, in order. The watch hears of each.
 fn rows<'n, 'w, W: TableWatch, R: Threads + Wait + Sync>(
     rt: &R,
     alloc: Global,
     outputs: &mut EachOutput,
-    outlooks: &[Outlook],
+    outlooks: &[Outlook<'_>],
     inquiry: Inquiry<'_, 'w>,
     watch: &mut W,
 ) -> Result<Vec<Row>, Refusal<'n, 'w>>
@@ -180,12 +212,14 @@ fn rows<'n, 'w, W: TableWatch, R: Threads + Wait + Sync>(
         outputs.old.whole.netlist.outputs rows.items) }
     ensures refusal { IfErr result (IsUnanswered inquiry.entry.admit.now) }
     ensures reported { (asked : Problem) → W.reported asked watch.old watch.new }
+    ensures heard { IfOk result (λ rows. W.heard rows.items watch.old watch.new) }
 {
     let count = outputs.names().len();
     let mut rows = Vec::new(alloc);
     for place in 0..count {
         tell(alloc, outputs, place, watch);
         let row = row_of(rt, alloc, outputs, place, outlooks[place], inquiry)?;
+        watch.found(&row);
         rows.push(row)?;
     }
     Ok(rows)
@@ -288,6 +322,7 @@ pub(crate) fn table<'n, 'w, 'a, W: TableWatch, R: Threads + Wait + Sync>(
     ensures certified { IfOk result (λ outcome. outcome.certificate ≡ Nothing) }
     ensures written { IfOk result CanBeWritten }
     ensures refusal { IfErr result (IsRefusedSearch text.now reading.now search.now) }
+    ensures heard { IfOk result (λ outcome. HeardRows (λ rows. W.heard rows watch.old watch.new) outcome.report) }
     ensures reported { (watch.new ≡ watch.old)
         ⊎ ((asked : Problem) × IsAsked text.now reading.now search.now.question asked.setting asked.admit × W.reported asked watch.old watch.new) }
 {
@@ -297,8 +332,10 @@ pub(crate) fn table<'n, 'w, 'a, W: TableWatch, R: Threads + Wait + Sync>(
         keep,
         ..
     } = question_of(alloc, text, reading, &search.question)?;
+    stop.gauge.end_reading();
     let mut report = begun(alloc, &circuit)?;
-    let outlooks = outlooks(alloc, &circuit, &admit)?;
+    let sample = sample_of(alloc, &circuit, &admit)?;
+    let outlooks = outlooks(alloc, &circuit, &admit, &sample)?;
     let mut outputs = EachOutput::of(alloc, circuit)?;
     let inquiry = Inquiry {
         admit: &admit,

@@ -27,6 +27,7 @@ use crate::names::label;
 use crate::outcome::Outcome;
 use crate::outlook::{Outlook, outlooks};
 use crate::refusal::Refusal;
+use crate::sample::sample_of;
 use crate::status::Status;
 use crate::worst::limits_of;
 use std::alloc::{AllocError, Global};
@@ -133,7 +134,7 @@ fn both_of<'n, 'w, R: Threads + Wait + Sync>(
     alloc: Global,
     outputs: &mut EachOutput,
     place: usize,
-    outlook: Outlook,
+    outlook: Outlook<'_>,
     inquiry: Inquiry<'_, 'w>,
 ) -> Result<Both, Refusal<'n, 'w>>
     requires place { place < length outputs.old.whole.netlist.outputs }
@@ -178,7 +179,7 @@ fn rows<'n, 'w, R: Threads + Wait + Sync>(
     rt: &R,
     alloc: Global,
     outputs: &mut EachOutput,
-    outlooks: &[Outlook],
+    outlooks: &[Outlook<'_>],
     inquiry: Inquiry<'_, 'w>,
 ) -> Result<Vec<HazardRow>, Refusal<'n, 'w>>
     requires held { length inquiry.admit.now.held ≡ length outputs.old.whole.netlist.inputs }
@@ -251,8 +252,10 @@ pub(crate) fn hazards<'n, 'w, 'a, R: Threads + Wait + Sync>(
         keep,
         ..
     } = question_of(alloc, text, reading, &search.question)?;
+    stop.gauge.end_reading();
     let mut report = begun(alloc, &circuit)?;
-    let outlooks = outlooks(alloc, &circuit, &admit)?;
+    let sample = sample_of(alloc, &circuit, &admit)?;
+    let outlooks = outlooks(alloc, &circuit, &admit, &sample)?;
     let mut outputs = EachOutput::of(alloc, circuit)?;
     let inquiry = Inquiry {
         admit: &admit,

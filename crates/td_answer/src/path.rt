@@ -6,6 +6,7 @@ ghost use Rattle.td_nets.specs.Printed.{printed};
 ghost use Rattle.td_nets.specs.Views.{name_of};
 ghost use Rattle.td_circuit.specs.Numbering.{nets, setting};
 ghost use Rattle.td_path.specs.Chains.{IsRunFor};
+ghost use Rattle.td_answer.specs.Ends.{EndsByStop};
 ghost use Rattle.td_answer.specs.Heads.{head_lines};
 ghost use Rattle.td_answer.specs.Runs.{TellsOutput, IsStill};
 ghost use Rattle.td_answer.specs.Additions.{AddsLines, IsOutputNamed, TellsNet, NeverChanges, waves_in};
@@ -15,10 +16,11 @@ ghost use Rattle.td_answer.specs.Writing.{CanBeWritten};
 
 use crate::beside::{changes_line, latest_line};
 use crate::head::begun;
+use crate::moments::push_lasts;
 use crate::names::label;
 use crate::outcome::Outcome;
 use crate::refusal::Refusal;
-use crate::sim::{push_lasts, simulated};
+use crate::sim::simulated;
 use std::alloc::{AllocError, Global};
 use td_circuit::Circuit;
 use td_lines::{Last, Report};
@@ -27,6 +29,7 @@ use td_path::chain_of;
 use td_reading::Reading;
 use td_request::Path;
 use td_run::Run;
+use td_stop::Stop;
 
 /// Whether reports print a name so.
 fn is_printed(alloc: Global, name: &Name, word: &str) -> Result<bool, AllocError>
@@ -124,21 +127,31 @@ fn named_report(
     Ok(Some(report))
 }
 
-/// Why an output changes last when it does, in the run of a pair of vectors: the changes that lead
-/// to its last change, from that of an input on. It is the output of this name, or the one that
-/// changes last.
+/// Why an output changes last when it does, in the run of a pair of vectors, unless the stop is set
+/// meanwhile: the changes that lead to its last change, from that of an input on. It is the output
+/// of this name, or the one that changes last.
 pub(crate) fn path<'n, 'w>(
     alloc: Global,
     text: &'n [u8],
     reading: &Reading<'_>,
     asked: &Path<'w>,
+    stop: &Stop,
 ) -> Result<Outcome, Refusal<'n, 'w>>
     ensures says { IfOk result (IsTruePath text.now reading.now asked.now) }
     ensures certified { IfOk result (λ outcome. outcome.certificate ≡ Nothing) }
     ensures written { IfOk result CanBeWritten }
     ensures refusal { IfErr result (IsRefusedPath text.now reading.now asked.now) }
+    ensures stopped { IfErr result (EndsByStop stop.now.can_be_set) }
 {
-    let waves = simulated(alloc, text, reading, &asked.inputs, asked.from, asked.to)?;
+    let waves = simulated(
+        alloc,
+        text,
+        reading,
+        &asked.inputs,
+        asked.from,
+        asked.to,
+        stop,
+    )?;
     match asked.output {
         None => {
             let report = latest_report(alloc, &waves.circuit, &waves.run)?;

@@ -41,6 +41,8 @@ pub enum Refusal<'n, 'w> {
     OtherQuestion(Difference),
     /// What the parts are joined into has more than 10,000,000 nodes.
     TooLong,
+    /// The run, or the check, was to end before it was done.
+    OutOfTime,
 }
 
 impl<'n, 'w> From<AllocError> for Refusal<'n, 'w> {
@@ -147,6 +149,7 @@ impl<'n, 'w> Refusal<'n, 'w> {
             Refusal::NotJoined(_) => Status::Rejected,
             Refusal::OtherQuestion(_) => Status::Rejected,
             Refusal::TooLong => Status::Rejected,
+            Refusal::OutOfTime => Status::Between,
         }
     }
 }

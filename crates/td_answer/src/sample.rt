@@ -14,6 +14,13 @@ use td_search::representative;
 /// How many changes a run may have that is only a sample.
 const MOST_CHANGES: u64 = 1_000_000;
 
+/// A pair and its run.
+#[derive(Drop)]
+pub(crate) struct Sample {
+    pub(crate) pair: Pair,
+    pub(crate) run: Run,
+}
+
 /// The count at a place, 0 where there is none.
 fn count_at(counts: &[u64], place: u32) -> u64 {
     match counts.get(place as usize) {
@@ -72,21 +79,21 @@ fn sample_pair(alloc: Global, circuit: &Circuit, admit: &Admit) -> Result<Option
     still_pair(alloc, admit)
 }
 
-/// The run of some admitted pair, where one with few changes is known.
-pub(crate) fn sample(
+/// Some admitted pair and its run, where one with few changes is known.
+pub(crate) fn sample_of(
     alloc: Global,
     circuit: &Circuit,
     admit: &Admit,
-) -> Result<Option<Run>, AllocError>
+) -> Result<Option<Sample>, AllocError>
     requires { length admit.now.held ≡ length circuit.now.netlist.inputs }
-    ensures { IfOk result (λ run. IfSome run (IsSample circuit.now admit.now)) }
+    ensures { IfOk result (λ sample. IfSome sample (IsSample circuit.now admit.now)) }
 {
     // For the prover: the pins have two positions for each input.
     let _pins = admit.pins();
     match sample_pair(alloc, circuit, admit)? {
         Some(pair) => {
             let run = run_of(alloc, circuit, &pair)?;
-            Ok(Some(run))
+            Ok(Some(Sample { pair, run }))
         }
         None => Ok(None),
     }

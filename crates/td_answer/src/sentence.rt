@@ -44,6 +44,7 @@ impl<'n, 'w> Refusal<'n, 'w> {
             Refusal::NotJoined(fault) => unjoined(out, fault),
             Refusal::OtherQuestion(difference) => other_question(out, *difference),
             Refusal::TooLong => out.push(b"too many nodes"),
+            Refusal::OutOfTime => out.push(b"out of time"),
         }
     }
 }

@@ -7,7 +7,7 @@ ghost use Rattle.td_search.specs.Problems.{Problem, problem_by, has_delay};
 ghost use Rattle.td_worst.specs.Methods.{tree_of, high_of};
 ghost use Rattle.td_worst.specs.Supports.{IsSupport};
 ghost use Rattle.td_question.specs.Asking.{IsAsked};
-ghost use Rattle.td_answer.specs.Methods.{method_of};
+ghost use Rattle.td_answer.specs.Methods.{method_of, bytes_of};
 ghost use Rattle.td_answer.specs.Heads.{head_lines};
 ghost use Rattle.td_answer.specs.Lines.{answer_lines, ending_of, pair_in};
 ghost use Rattle.td_answer.specs.Runs.{RunsPair, TellsPair};
@@ -25,7 +25,7 @@ use crate::ended::Ended;
 use crate::kept::worst_kept;
 use crate::kept_certificate::Told;
 use crate::open_certificate::{Open, open_certificate};
-use crate::outcome::{Outcome, Waves};
+use crate::outcome::{Dump, Outcome, Waves};
 use crate::refusal::Refusal;
 use crate::runs::run_of;
 use std::alloc::{AllocError, Global};
@@ -57,16 +57,32 @@ pub(crate) fn method_of(strategy: td_request::Strategy) -> Method
     }
 }
 
+/// How many bytes are so many units of 1,048,576 bytes: all that there are where none are given.
+fn bytes_of(memory: Option<u64>) -> u64
+    ensures { result ≡ bytes_of memory }
+{
+    match memory {
+        Some(units) => units.saturating_mul(1_048_576),
+        None => u64::MAX,
+    }
+}
+
 /// How a search goes, and what ends it.
-pub(crate) fn limits_of<'a>(effort: &td_request::Effort, stop: &'a Stop) -> Limits<'a>
-    ensures workers { result.effort.workers ≡ effort.now.workers }
-    ensures budget { result.effort.budget ≡ effort.now.budget }
+pub(crate) fn limits_of<'a>(asked: &td_request::Effort, stop: &'a Stop) -> Limits<'a>
+    ensures workers { result.effort.workers ≡ asked.now.workers }
+    ensures budget { result.effort.budget ≡ asked.now.budget }
+    ensures memory { result.memory ≡ bytes_of asked.now.memory }
 {
     let effort = Effort {
-        workers: effort.workers,
-        budget: u64::from(effort.budget),
+        workers: asked.workers,
+        budget: u64::from(asked.budget),
     };
-    Limits { effort, stop }
+    let memory = bytes_of(asked.memory);
+    Limits {
+        effort,
+        stop,
+        memory,
+    }
 }
 
 /// The waves of a pair's run, where they are asked for.
@@ -75,7 +91,7 @@ pub(crate) fn dump_of(
     circuit: Circuit,
     pair: &Pair,
     is_asked: bool,
-) -> Result<Option<Waves>, AllocError>
+) -> Result<Option<Dump>, AllocError>
     requires first_fits { length pair.now.first ≡ length circuit.netlist.inputs }
     requires second_fits { length pair.now.second ≡ length circuit.netlist.inputs }
     ensures { IfOk result (IsDumpWhere is_asked (setting circuit) (RunsPair (setting circuit) pair.now)) }
@@ -84,7 +100,7 @@ pub(crate) fn dump_of(
         return Ok(None);
     }
     let run = run_of(alloc, &circuit, pair)?;
-    Ok(Some(Waves { circuit, run }))
+    Ok(Some(Dump::Whole(Waves { circuit, run })))
 }
 
 /// The report of an answer, and after it what is asked of its pair's run.
@@ -242,6 +258,7 @@ pub(crate) fn worst<'n, 'w, W: Watch, R: Threads + Wait + Sync>(
         ⊎ ((asked : Problem) × IsAsked text.now reading.now search.now.question asked.setting asked.admit × W.reported asked watch.old watch.new) }
 {
     let asked = question_of(alloc, text, reading, &search.question)?;
+    stop.gauge.end_reading();
     if !asked.keep.is_empty() {
         return worst_kept(rt, alloc, asked, text, reading, search, stop);
     }

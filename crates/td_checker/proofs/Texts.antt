@@ -1,6 +1,6 @@
 -- From what is said of two texts to what the checker answers.
 use Rattle.std.proofs.Common.{◌≡◌, ◌≢◌, ◌≤◌, ℕ, List, [], ◌∷◌, ◌++◌, length, map, length-append, Option, Some, None, inl, inr, refl, sym, ap, ap₂, subst, ◌∙◌, arith}
-use Rattle.std.specs.Prelude.{codes, Result, Ok, Err, IfOk, IfErr}
+use Rattle.std.specs.Prelude.{codes, Result, Ok, Err, IfOk, IfErr, IfSome}
 use Rattle.std.specs.List.{Contains, flat_map}
 use Rattle.std.proofs.lemmas.List.{append-nil}
 use Rattle.std.proofs.lemmas.List.Concat.{flat_map-append, flat_map-cons}
@@ -49,7 +49,8 @@ use Rattle.td_checker.specs.declared.verdict.Checked.{Checked}
 use Rattle.td_checker.specs.declared.verdict.CheckFault.{CheckFault}
 use Rattle.td_checker.specs.declared.verdict.CheckFault.TheVariants as fault
 use Rattle.td_checker.specs.Verdicts.{Said, AreTold, IsVerdictFor, IsVerdictOfWhole, outputs_for, line_count, line_total}
-use Rattle.td_checker.specs.Checks.{told_all, said_by, default_for, with_default, HasVerdict, HaveVerdict, IsWholeFault, IsDefaultFor, IsNetlistFaultFor, IsCheckFault, fault_of, IsCertificateFault, IsReportedAs, AsksAbout, TellsTruth, TellsTruthOf}
+use Rattle.td_checker.specs.Checks.{told_all, said_by, default_for, with_default, HasVerdict, HaveVerdict, IsWholeFault, IsDefaultFor, IsNetlistFaultFor, IsCheckFault, fault_of, IsCertificateFault, AsksAbout, TellsTruth, TellsTruthOf}
+use Rattle.td_checker.specs.Stopping.{IsReportedInTime}
 use Rattle.td_checker.proofs.OneVerdict.{one_with, texts_have_one_verdict}
 
 -- ---- a text is at least as long as its lines are many
@@ -216,10 +217,11 @@ fault_is_memory netlist_text reading told text (fault.Loop name) v is have = no_
 fault_is_memory netlist_text reading told text (fault.Certificate reported) v is have =
     spelled_fault reported.kind reported.line text have.certificate have.spells have.within is.2 is.3
 
-pub reported_only : (netlist_text : List ℕ) (reading : Reading) (told : Told) (text : List ℕ) (result : Result Checked CheckFault)
-    → IfOk result (λ reported. HaveVerdict netlist_text reading told text reported.verdict) → IfErr result (λ reported. IsCheckFault netlist_text reading text reported)
-    → (v : Verdict) → HaveVerdict netlist_text reading told text v → IsReportedAs v result
-reported_only netlist_text reading told text (Ok reported) found fails v have = texts_have_one_verdict netlist_text reading told text reported.verdict v found have
+pub reported_only : (netlist_text : List ℕ) (reading : Reading) (told : Told) (text : List ℕ) (result : Result (Option Checked) CheckFault)
+    → IfOk result (λ found. IfSome found (λ reported. HaveVerdict netlist_text reading told text reported.verdict))
+    → IfErr result (λ reported. IsCheckFault netlist_text reading text reported) → (v : Verdict) → HaveVerdict netlist_text reading told text v → IsReportedInTime v result
+reported_only netlist_text reading told text (Ok (Some reported)) found fails v have = texts_have_one_verdict netlist_text reading told text reported.verdict v found have
+reported_only netlist_text reading told text (Ok None) found fails v have = tt
 reported_only netlist_text reading told text (Err reported) found fails v have = fault_is_memory netlist_text reading told text reported v fails have
 
 -- ---- what is told is true

@@ -1,8 +1,9 @@
 //! The question that a certificate tells, beside what the checker is told.
 
-ghost use Rattle.std.specs.Prelude.{◌≡◌, ◌≤◌, ◌↔◌, true, option_map, Some, IfOk, IfSome, IfNone, IsTrue};
+ghost use Rattle.std.specs.Prelude.{◌≡◌, ◌≤◌, ◌↔◌, true, option_map, Some, IfOk, IfErr, IfSome, IfNone, IsTrue};
 ghost use Rattle.td_certificate.specs.Accepts.{lines_in, IsOfSize};
 ghost use Rattle.td_certificate.specs.Spelling.{HasSpelling};
+ghost use Rattle.td_event_sim.specs.Stopping.{StopNeedsStop};
 ghost use Rattle.td_source.specs.Kept.{AreNumbers, HasOutputs};
 ghost use Rattle.td_checker.specs.Saying.{said_of};
 ghost use Rattle.td_checker.specs.Verdicts.{AreCompared, AreSameOutputs, IsVerdict, IsVerdictOn, IsVerdictOfWhole, line_total, outputs_for};
@@ -12,9 +13,11 @@ use crate::verdict::Verdict;
 use std::alloc::{AllocError, Global};
 use td_certificate::{Certificate, Question, Terms};
 use td_circuit::Circuit;
+use td_event_sim::Interruption;
 use td_gates::Delay;
 use td_reading::Told;
 use td_source::{are_outputs, asked_of};
+use td_stop::Stop;
 
 /// What the checker is told of how a netlist is read: the delay of gates that state none, the
 /// numbers of the outputs that are asked about, none where all are, and which of these are
@@ -78,36 +81,41 @@ fn other_in(question: &Question, said: &Saying) -> Option<u32>
     }
 }
 
-/// The verdict on a certificate of the size of a circuit, which tells no other question.
+/// The verdict on a certificate of the size of a circuit, which tells no other question, unless the
+/// stop is set meanwhile.
 #[tactic(auto, using(crate::proofs::Texts::moments_fit))]
 fn verdict_at(
     alloc: Global,
     circuit: Circuit,
     certificate: &Certificate,
-) -> Result<Verdict, AllocError>
+    stop: &Stop,
+) -> Result<Verdict, Interruption>
     requires size { IsOfSize circuit.netlist certificate.now }
     requires spelled { HasSpelling certificate.now }
     requires few { line_total (lines_in certificate.now) ≤ 268435456 }
-    ensures { IfOk result (λ verdict. IsVerdictOn circuit.netlist certificate.now verdict) }
+    ensures verdict { IfOk result (λ verdict. IsVerdictOn circuit.netlist certificate.now verdict) }
+    ensures stopped { IfErr result (StopNeedsStop stop.now.can_be_set) }
 {
     let moments = Vec::from_slice(alloc, certificate.question.moments())?;
     let mut circuit = circuit;
     circuit.set_moments(moments);
-    verdict_of_lines(alloc, &circuit, certificate)
+    verdict_of_lines(alloc, &circuit, certificate, stop)
 }
 
 /// The verdict on a certificate that has a text within the limit, of the circuit that it asks
-/// about.
+/// about, unless the stop is set meanwhile.
 #[tactic(auto, using(crate::proofs::Reported::with_told))]
 fn verdict_on(
     alloc: Global,
     circuit: Circuit,
     said: &Saying,
     certificate: &Certificate,
-) -> Result<Verdict, AllocError>
+    stop: &Stop,
+) -> Result<Verdict, Interruption>
     requires spelled { HasSpelling certificate.now }
     requires few { line_total (lines_in certificate.now) ≤ 268435456 }
-    ensures { IfOk result (λ verdict. IsVerdict (said_of said.now) circuit.netlist certificate.now verdict) }
+    ensures verdict { IfOk result (λ verdict. IsVerdict (said_of said.now) circuit.netlist certificate.now verdict) }
+    ensures stopped { IfErr result (StopNeedsStop stop.now.can_be_set) }
 {
     if !is_of_size(&circuit, certificate) {
         return Ok(Verdict::OtherCircuit);
@@ -115,7 +123,7 @@ fn verdict_on(
     match other_in(&certificate.question, said) {
         Some(line) => Ok(Verdict::OtherQuestion(line)),
         None => {
-            let verdict = verdict_at(alloc, circuit, certificate)?;
+            let verdict = verdict_at(alloc, circuit, certificate, stop)?;
             Ok(verdict)
         }
     }
@@ -165,21 +173,23 @@ fn outputs_for<'a>(said: &'a Saying, certificate: &'a Certificate) -> Option<&'a
 }
 
 /// The verdict on a certificate that has a text within the limit, of the circuit of a whole
-/// netlist.
+/// netlist, unless the stop is set meanwhile.
 pub(crate) fn verdict_of_whole<'a>(
     alloc: Global,
     circuit: Circuit,
     said: &'a Saying,
     certificate: &'a Certificate,
-) -> Result<Verdict, AllocError>
+    stop: &Stop,
+) -> Result<Verdict, Interruption>
     requires spelled { HasSpelling certificate.now }
     requires few { line_total (lines_in certificate.now) ≤ 268435456 }
-    ensures { IfOk result (λ verdict. IsVerdictOfWhole (said_of said.now) circuit.netlist certificate.now verdict) }
+    ensures verdict { IfOk result (λ verdict. IsVerdictOfWhole (said_of said.now) circuit.netlist certificate.now verdict) }
+    ensures stopped { IfErr result (StopNeedsStop stop.now.can_be_set) }
 {
     let numbers = outputs_for(said, certificate);
     let found = circuit_for(alloc, circuit, numbers)?;
     match found {
-        Some(asked) => verdict_on(alloc, asked, said, certificate),
+        Some(asked) => verdict_on(alloc, asked, said, certificate, stop),
         None => Ok(Verdict::OtherCircuit),
     }
 }

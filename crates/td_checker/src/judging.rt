@@ -1,10 +1,11 @@
 //! What is wrong with a line of a tree.
 
-ghost use Rattle.std.specs.Prelude.{◌≡◌, false, ◌*◌, ◌↔◌, Option, ℕ, length, Some, IfOk, IsTrue};
+ghost use Rattle.std.specs.Prelude.{◌≡◌, false, ◌*◌, ◌↔◌, Option, ℕ, length, Some, IfOk, IfErr, IsTrue};
 ghost use Rattle.td_circuit.specs.Numbering.{setting};
 ghost use Rattle.td_domain.specs.Cubes.{IsPoint};
 ghost use Rattle.td_certificate.specs.Accepts.{IsBoundBy, SplitsFree, IsEnough, IsOfOnePair, IsBounded, HasDelay, IsOfCube, IsWithin};
 ghost use Rattle.td_event_sim.specs.Scratch.{IsFor};
+ghost use Rattle.td_event_sim.specs.Stopping.{StopNeedsStop};
 ghost use Rattle.td_certificate.specs.Questions.{asking_of};
 ghost use Rattle.td_certificate.specs.Trees.{is_refuted};
 ghost use Rattle.td_refutation.specs.Asking.{MayLie};
@@ -18,8 +19,9 @@ use td_certificate::{BoundedBy, Node, Question};
 use td_circuit::Circuit;
 use td_domain::{Both, Cube, Trit, bound};
 use td_edges::Edges;
-use td_event_sim::{Scratch, delay_of};
+use td_event_sim::{Interruption, Scratch, delay_until};
 use td_refutation::{Flaw as StepFlaw, is_broken};
+use td_stop::Stop;
 use td_ternary::Possible;
 
 /// What is wrong with a node.
@@ -49,28 +51,44 @@ pub enum Judged {
     Bad(Flaw, usize),
 }
 
-/// What is found of the node of this cube, where no admitted pair is to change an output after this
-/// moment, or none is to be admitted.
+/// What nodes are held to: the question, the moment after which no admitted pair is to change an
+/// output, none where no pair is to be admitted, and the stop at which a check ends.
+#[derive(Clone, Copy, Drop)]
+pub struct Task<'a> {
+    pub question: &'a Question,
+    pub most: Option<u64>,
+    pub stop: &'a Stop,
+}
+
+/// What is found of the node of this cube, unless the stop is set meanwhile.
 pub fn judge(
     alloc: Global,
     scratch: &mut Scratch,
     circuit: &Circuit,
-    question: &Question,
-    most: Option<u64>,
+    task: &Task<'_>,
     cube: &Cube,
     node: &Node,
-) -> Result<Judged, AllocError>
+) -> Result<Judged, Interruption>
     requires scratch { IsFor circuit.now scratch.old }
     requires cube { length cube.now ≡ 2 * length circuit.now.netlist.inputs }
-    requires pins { length cube.now ≡ length question.now.admit.pins }
-    requires held { length question.now.admit.held ≡ length circuit.now.netlist.inputs }
+    requires pins { length cube.now ≡ length task.now.question.now.admit.pins }
+    requires held { length task.now.question.now.admit.held ≡ length circuit.now.netlist.inputs }
     ensures scratch { IsFor circuit.now scratch.new }
-    ensures judged { IfOk result (IsJudged (setting circuit.now) (asking_of question.now) most (with_cube cube.now node.now)) }
+    ensures judged { IfOk result (IsJudged (setting circuit.now) (asking_of task.now.question.now) task.now.most (with_cube cube.now node.now)) }
+    ensures stopped { IfErr result (StopNeedsStop task.now.stop.now.can_be_set) }
 {
     match node {
-        Node::Refuted(refuted) => judge_refuted(alloc, circuit, question, most, cube, refuted),
+        Node::Refuted(refuted) => judge_refuted(
+            alloc,
+            circuit,
+            task.question,
+            task.most,
+            cube,
+            refuted,
+            task.stop,
+        ),
         Node::Split(_) | Node::Bound(_, _) | Node::Point(_) | Node::Empty => {
-            match judge_line(alloc, scratch, circuit, question, most, cube, node)? {
+            match judge_line(alloc, scratch, circuit, task, cube, node)? {
                 Some(flaw) => Ok(Judged::Bad(flaw, 0)),
                 None => Ok(Judged::Good(1)),
             }
@@ -78,36 +96,45 @@ pub fn judge(
     }
 }
 
-/// What is wrong with the node of this cube, which is one line, if something is.
+/// What is wrong with the node of this cube, which is one line, if something is, unless the stop is
+/// set meanwhile.
 fn judge_line(
     alloc: Global,
     scratch: &mut Scratch,
     circuit: &Circuit,
-    question: &Question,
-    most: Option<u64>,
+    task: &Task<'_>,
     cube: &Cube,
     node: &Node,
-) -> Result<Option<Flaw>, AllocError>
+) -> Result<Option<Flaw>, Interruption>
     requires line { is_refuted node.now ≡ false }
     requires scratch { IsFor circuit.now scratch.old }
     requires cube { length cube.now ≡ 2 * length circuit.now.netlist.inputs }
-    requires pins { length cube.now ≡ length question.now.admit.pins }
+    requires pins { length cube.now ≡ length task.now.question.now.admit.pins }
     ensures scratch { IsFor circuit.now scratch.new }
-    ensures judged { IfOk result (IsJudgedLine (setting circuit.now) (asking_of question.now) most (with_cube cube.now node.now)) }
+    ensures judged { IfOk result (IsJudgedLine (setting circuit.now) (asking_of task.now.question.now) task.now.most (with_cube cube.now node.now)) }
+    ensures stopped { IfErr result (StopNeedsStop task.now.stop.now.can_be_set) }
 {
     if !splits_free(cube, node) {
         return Ok(Some(Flaw::Misplaced));
     }
-    if !is_enough(most, node) {
+    if !is_enough(task.most, node) {
         return Ok(Some(Flaw::NotEmpty));
     }
     if !is_of_one_pair(cube, node) {
         return Ok(Some(Flaw::NotOnePair));
     }
-    if !is_of_cube(alloc, scratch, circuit, question, cube, node)? {
+    if !is_of_cube(
+        alloc,
+        scratch,
+        circuit,
+        task.question,
+        cube,
+        node,
+        task.stop,
+    )? {
         return Ok(Some(wrong(node)));
     }
-    if !is_within(most, node) {
+    if !is_within(task.most, node) {
         return Ok(Some(Flaw::AboveTime));
     }
     Ok(None)
@@ -179,7 +206,7 @@ fn may_lie(
     Ok(!is_broken(alloc, circuit, question.keep(), cube)?)
 }
 
-/// Whether what a leaf says is true of its cube.
+/// Whether what a leaf says is true of its cube, unless the stop is set meanwhile.
 fn is_of_cube(
     alloc: Global,
     scratch: &mut Scratch,
@@ -187,7 +214,8 @@ fn is_of_cube(
     question: &Question,
     cube: &Cube,
     node: &Node,
-) -> Result<bool, AllocError>
+    stop: &Stop,
+) -> Result<bool, Interruption>
     requires line { is_refuted node.now ≡ false }
     requires scratch { IsFor circuit.now scratch.old }
     requires length { length cube.now ≡ 2 * length circuit.now.netlist.inputs }
@@ -195,11 +223,12 @@ fn is_of_cube(
     requires pair { IsOfOnePair cube.now node.now }
     ensures scratch { IsFor circuit.now scratch.new }
     ensures is { IfOk result (λ is. IsTrue is ↔ IsOfCube (setting circuit.now) (asking_of question.now) cube.now node.now) }
+    ensures stopped { IfErr result (StopNeedsStop stop.now.can_be_set) }
 {
     match node {
         Node::Split(_) | Node::Refuted(_) => Ok(true),
-        Node::Bound(domain, most) => is_bounded(alloc, circuit, cube, *domain, *most),
-        Node::Point(delay) => has_delay(alloc, scratch, circuit, cube, *delay),
+        Node::Bound(domain, most) => Ok(is_bounded(alloc, circuit, cube, *domain, *most)?),
+        Node::Point(delay) => has_delay(alloc, scratch, circuit, cube, *delay, stop),
         Node::Empty => Ok(!may_lie(alloc, circuit, question, cube)?),
     }
 }
@@ -256,20 +285,22 @@ fn is_bounded(
     }
 }
 
-/// Whether the one pair of a cube has this delay.
+/// Whether the one pair of a cube has this delay, unless the stop is set before that is known.
 fn has_delay(
     alloc: Global,
     scratch: &mut Scratch,
     circuit: &Circuit,
     cube: &Cube,
     delay: u64,
-) -> Result<bool, AllocError>
+    stop: &Stop,
+) -> Result<bool, Interruption>
     requires scratch { IsFor circuit.now scratch.old }
     requires length { length cube.now ≡ 2 * length circuit.now.netlist.inputs }
     requires point { IsPoint cube.now }
     ensures scratch { IsFor circuit.now scratch.new }
     ensures has { IfOk result (λ has. IsTrue has ↔ HasDelay (setting circuit.now) cube.now delay) }
+    ensures stopped { IfErr result (StopNeedsStop stop.now.can_be_set) }
 {
     let pair = pair_of(alloc, circuit, cube)?;
-    Ok(delay_of(scratch, circuit, &pair)? == delay)
+    Ok(delay_until(scratch, circuit, &pair, stop)? == delay)
 }

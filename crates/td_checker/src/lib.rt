@@ -7,12 +7,15 @@ mod checks;
 mod comparing;
 mod judging;
 pub mod laws;
+mod looking;
 mod order;
 mod pairs;
 mod refuting;
+#[cfg(test)]
+mod tests;
 mod verdict;
 mod walking;
 
 pub use checking::is_of_size;
-pub use checks::{check, check_told};
+pub use checks::{check, check_told, check_told_until};
 pub use verdict::{CheckFault, Checked, Verdict};

@@ -5,3 +5,4 @@ pub mod Ends
 pub mod Files
 pub mod DumpLaws
 pub mod Judging
+pub mod Deadlines

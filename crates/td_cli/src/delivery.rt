@@ -3,8 +3,7 @@
 ghost use Rattle.std.specs.Prelude.{◌≡◌, ◌||◌, true, IfSome, IfErr, OnOk};
 ghost use Rattle.td_text.specs.Output.{SentFront};
 ghost use Rattle.td_certificate.specs.Spelling.{HasSpelling};
-ghost use Rattle.td_vcd.specs.Writes.{IsRunFor};
-ghost use Rattle.td_answer.specs.Writing.{HasRun, CanBeWritten};
+ghost use Rattle.td_answer.specs.Writing.{HasDump, CanBeWritten};
 ghost use Rattle.td_answer.specs.declared.status.Status.TheVariants as ending;
 ghost use Rattle.td_cli.specs.Carrying.{print_of, goes_out, IsShown};
 ghost use Rattle.td_cli.specs.Clashes.{fault_status};
@@ -13,7 +12,7 @@ use crate::fault::{Fault, unwritten};
 use crate::outputs::{Outputs, outputs_of};
 use crate::print::show;
 use std::alloc::Global;
-use td_answer::{Outcome, Waves};
+use td_answer::{Dump, Outcome};
 use td_certificate::{Certificate, WriteFault};
 use td_files::Files;
 use td_request::Request;
@@ -67,17 +66,29 @@ fn write_fault(fault: VcdFault) -> WriteFault {
     }
 }
 
+/// Writes the text of a dump.
+fn write_dump<W: Sink>(alloc: Global, out: &mut W, dump: &Dump) -> Result<(), VcdFault>
+    requires { HasDump dump.now }
+{
+    match dump {
+        Dump::Whole(waves) => td_vcd::write(alloc, out, &waves.circuit, &waves.run),
+        Dump::Chosen(waves) => {
+            td_vcd::write_chosen(alloc, out, &waves.circuit, &waves.kept, &waves.nets)
+        }
+    }
+}
+
 /// Writes waves to a new file, as `write_certificate` does a certificate.
 fn write_waves<F: Files>(
     alloc: Global,
     files: &mut F,
     name: &str,
-    waves: &Waves,
+    dump: &Dump,
 ) -> Result<(), WriteFault>
-    requires { HasRun waves.now }
+    requires { HasDump dump.now }
 {
     let mut writer = files.create(alloc, name)?;
-    match td_vcd::write(alloc, &mut writer, &waves.circuit, &waves.run) {
+    match write_dump(alloc, &mut writer, dump) {
         Ok(()) => files.close(alloc, name, writer),
         Err(torn) => {
             files.discard(writer);
@@ -111,18 +122,18 @@ fn keep_waves<'w, F: Files>(
     alloc: Global,
     files: &mut F,
     name: Option<&'w str>,
-    waves: &Option<Waves>,
+    dump: &Option<Dump>,
 ) -> Result<(), Fault<'w>>
-    requires { IfSome waves.now HasRun }
+    requires { IfSome dump.now HasDump }
     ensures { IfErr result (λ fault. fault_status fault ≡ ending.Device) }
 {
-    let Some(waves) = waves else {
+    let Some(dump) = dump else {
         return Ok(());
     };
     let Some(name) = name else {
         return Ok(());
     };
-    match write_waves(alloc, files, name, waves) {
+    match write_waves(alloc, files, name, dump) {
         Ok(()) => Ok(()),
         Err(fault) => Err(unwritten(name, fault)),
     }

@@ -46,9 +46,7 @@ fn push_cause(
             text.push(b"the search has nothing more to try; both figures are true")
         }
         Some(Cause::Time) => text.push(b"the seconds are over; both figures are true"),
-        Some(Cause::Memory) => {
-            text.push(b"the search wants more memory than there is; both figures are true")
-        }
+        Some(Cause::Memory) => text.push(memory_ended(search)),
         Some(Cause::Budget | Cause::Required) => text.number_between(
             b"the search used up its budget of ",
             budget,
@@ -59,6 +57,15 @@ fn push_cause(
             budget,
             b" nodes are the budget of each, unless memory, time or --stop ended it; all figures are true",
         ),
+    }
+}
+
+/// That memory ended the search: what it was given, or all that there is.
+fn memory_ended(search: &Search<'_>) -> &'static [u8] {
+    if search.effort.memory.is_some() {
+        b"the search wants more memory than --memory gives it; both figures are true"
+    } else {
+        b"the search wants more memory than there is; both figures are true"
     }
 }
 
@@ -81,7 +88,10 @@ fn ways_on(text: &mut Text, search: &Search<'_>, cause: Option<Cause>) -> Result
     match cause {
         Some(Cause::Stop) => return Ok(()),
         Some(Cause::Effort) => other_strategy(text, search.strategy)?,
-        Some(Cause::Memory) => further_strategy(text, search.strategy)?,
+        Some(Cause::Memory) => {
+            further_strategy(text, search.strategy)?;
+            more_memory(text, search)?;
+        }
         Some(Cause::Budget | Cause::Required) => {
             further_strategy(text, search.strategy)?;
             more_budget(text, search.effort.budget)?;
@@ -94,6 +104,7 @@ fn ways_on(text: &mut Text, search: &Search<'_>, cause: Option<Cause>) -> Result
             further_strategy(text, search.strategy)?;
             more_budget(text, search.effort.budget)?;
             more_time(text, search)?;
+            more_memory(text, search)?;
         }
     }
     help(
@@ -122,6 +133,13 @@ fn other_strategy(text: &mut Text, strategy: Strategy) -> Result<(), AllocError>
 fn more_budget(text: &mut Text, budget: u32) -> Result<(), AllocError> {
     if budget < MOST_NODES {
         help(text, b"a greater --budget, at most 10000000")?;
+    }
+    Ok(())
+}
+
+fn more_memory(text: &mut Text, search: &Search<'_>) -> Result<(), AllocError> {
+    if search.effort.memory.is_some() {
+        help(text, b"more --memory, or none")?;
     }
     Ok(())
 }

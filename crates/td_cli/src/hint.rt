@@ -10,7 +10,7 @@ use crate::names::{about_word, bad_keep, bad_line, long_keep_file, no_net};
 use crate::outputs::read_as;
 use crate::refusals::{
     NetlistText, certificate_fault, memory, netlist_fault, no_pair, no_timer, not_accepted,
-    not_joined, on_loop, one_file, other_question, too_long, unreadable, unwritable,
+    not_joined, on_loop, one_file, other_question, out_of_time, too_long, unreadable, unwritable,
 };
 use crate::vectors::{about_vector, no_output};
 use std::alloc::{AllocError, Global};
@@ -151,6 +151,7 @@ impl<'r, 'w, 't> Case<'r, 'w, 't> {
             Refusal::NotJoined(fault) => not_joined(text, fault),
             Refusal::OtherQuestion(difference) => other_question(text, *difference),
             Refusal::TooLong => too_long(text),
+            Refusal::OutOfTime => out_of_time(text),
         }
     }
 

@@ -4,15 +4,18 @@ ghost use Rattle.std.specs.Prelude.{IfSome};
 ghost use Rattle.td_cli.specs.Judging.{IsAnswered};
 
 use crate::advice::Advice;
+use crate::board::Board;
 use crate::deadline::Deadline;
 use crate::progress::ProgressLines;
+use crate::waiting::Waiting;
 use std::alloc::Global;
+use std::snapshot::Snapshot;
 use std::sync::Wait;
 use std::thread;
-use std::thread::Threads;
+use std::thread::{Promise, Threads};
 use std::time::Clock;
 use td_answer::{Outcome, Refusal, TableWatch, Texts, answer};
-use td_pool::take_back;
+use td_pool::Unwatched;
 use td_request::{Command, Request};
 use td_stop::{Stop, Timer};
 use td_text::Sink;
@@ -27,7 +30,7 @@ pub(crate) fn shows_progress(request: &Request<'_>) -> bool {
 
 /// The outcome of a request on the texts of its files. Lines on standard error say how far a search
 /// has come, where that is asked for. None where something is to end it, and no thread can be
-/// started for a timer, or no clock be read.
+/// started for it, or no clock be read.
 pub(crate) fn judged<'n, 'c, 'w, R: Threads + Wait + Clock + Sync, E: Sink, A: Advice + Sync>(
     rt: &R,
     alloc: Global,
@@ -40,11 +43,27 @@ pub(crate) fn judged<'n, 'c, 'w, R: Threads + Wait + Clock + Sync, E: Sink, A: A
 {
     let case = Case { request, texts };
     let deadline = Deadline::of(request, advice);
-    let watch = ProgressLines::new(rt, alloc, shows_progress(request), err);
-    let (found, watch) = case.judged(rt, alloc, deadline, watch);
-    let ProgressLines { err, .. } = watch;
-    take_back(err);
-    found
+    let is_asked = shows_progress(request);
+    if !deadline.can_come() && !is_asked {
+        return Some(case.answered(rt, alloc, &Stop::never(), &mut Unwatched));
+    }
+    if deadline.can_come() && !Timer::can_run(rt) {
+        return None;
+    }
+    case.judged(rt, alloc, &deadline, is_asked, err)
+}
+
+/// What a thread promises that judges a request.
+#[derive(Drop)]
+struct Answering<'n, 'c, 'w> {
+    request: Snapshot<Request<'w>>,
+    texts: Snapshot<Texts<'n, 'c, 'w>>,
+}
+
+impl<'n, 'c, 'w> Promise<Result<Outcome, Refusal<'n, 'w>>> for Answering<'n, 'c, 'w> {
+    ghost use Rattle.td_cli.specs.Judging.{IsAnswered};
+
+    ghost kept_by = { λ promise found. IsAnswered promise.request.value promise.texts.value found };
 }
 
 /// A request, and the texts of its files.
@@ -71,59 +90,68 @@ impl<'r, 'n, 'c, 'w> Case<'r, 'n, 'c, 'w> {
         answer(rt, alloc, self.request, self.texts, stop, watch)
     }
 
-    /// The outcome, by a deadline where there is one. The watch comes back.
-    fn judged<W: TableWatch, R: Threads + Wait + Clock + Sync, A: Advice + Sync>(
+    /// The outcome, of a search that leaves its lines on a board.
+    fn watched<R: Threads + Wait + Clock + Sync>(
         self,
         rt: &R,
         alloc: Global,
-        deadline: Option<Deadline<'_, '_, A>>,
-        watch: W,
-    ) -> (Option<Result<Outcome, Refusal<'n, 'w>>>, W)
-        ensures { IfSome result.0 (IsAnswered self.entry.request.now self.entry.texts.now) }
+        stop: &Stop,
+        is_asked: bool,
+        board: &Board,
+    ) -> Result<Outcome, Refusal<'n, 'w>>
+        ensures { IsAnswered self.entry.request.now self.entry.texts.now result }
     {
-        match deadline {
-            Some(deadline) if Timer::can_run(rt) => self.judged_by(rt, alloc, &deadline, watch),
-            Some(_) => (None, watch),
-            None => {
-                let mut watch = watch;
-                let found = self.answered(rt, alloc, &Stop::never(), &mut watch);
-                (Some(found), watch)
-            }
-        }
+        let mut watch = ProgressLines::new(rt, alloc, is_asked, board);
+        self.answered(rt, alloc, stop, &mut watch)
     }
 
-    /// The outcome, beside a thread that runs a timer. The watch comes back.
-    fn judged_by<W: TableWatch, R: Threads + Wait + Clock + Sync, A: Advice + Sync>(
+    /// The outcome, by a thread of its own, while this one writes the lines that it leaves, and
+    /// ends it by the deadline. Where no thread can be started, this one searches, unless it has a
+    /// deadline.
+    fn judged<R: Threads + Wait + Clock + Sync, E: Sink, A: Advice + Sync>(
         self,
         rt: &R,
         alloc: Global,
         deadline: &Deadline<'_, '_, A>,
-        watch: W,
-    ) -> (Option<Result<Outcome, Refusal<'n, 'w>>>, W)
-        ensures { IfSome result.0 (IsAnswered self.entry.request.now self.entry.texts.now) }
+        is_asked: bool,
+        err: &mut E,
+    ) -> Option<Result<Outcome, Refusal<'n, 'w>>>
+        ensures { IfSome result (IsAnswered self.entry.request.now self.entry.texts.now) }
     {
         let case = self;
         let timer = &Timer::new();
+        let board = &Board::new(alloc);
         let stop = &deadline.stop();
         thread::scope(
             thread::scope_env(),
             rt,
-            |scope| -> (Option<Result<Outcome, Refusal<'_, '_>>>, W)
-                ensures { IfSome result.0 (IsAnswered case.entry.request.now case.entry.texts.now) }
+            |scope| -> Option<Result<Outcome, Refusal<'_, '_>>>
+                ensures { IfSome result (IsAnswered case.entry.request.now case.entry.texts.now) }
             {
-                let mut watch = watch;
-                let Ok(running) = scope.spawn(move || timer.run(
-                    rt,
-                    deadline.seconds,
-                    deadline,
-                    stop,
-                )) else {
-                    return (None, watch);
+                let promise = Answering {
+                    request: Snapshot::of(case.request),
+                    texts: Snapshot::of(case.texts),
                 };
-                let found = case.answered(rt, alloc, stop, &mut watch);
-                timer.end(rt);
-                running.join(rt);
-                (Some(found), watch)
+                let mut waiting = Waiting::new(rt, alloc, is_asked, deadline, stop, board, err);
+                let job = move || -> Result<Outcome, Refusal<'_, '_>>
+                    ensures { IsAnswered case.entry.request.now case.entry.texts.now result }
+                {
+                    let found = case.watched(rt, alloc, stop, is_asked, board);
+                    timer.end(rt);
+                    found
+                };
+                let Ok(running) = scope.spawn_with(promise, job) else {
+                    if deadline.can_come() {
+                        return None;
+                    }
+                    let found = case.watched(rt, alloc, stop, is_asked, board);
+                    waiting.write();
+                    return Some(found);
+                };
+                timer.run(rt, deadline.seconds, &mut waiting, stop);
+                let found = running.join(rt);
+                waiting.write();
+                Some(found)
             },
         )
     }

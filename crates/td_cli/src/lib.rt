@@ -9,6 +9,7 @@
 #![tactic(auto)]
 
 mod advice;
+mod board;
 mod bytes;
 mod deadline;
 mod delivery;
@@ -21,12 +22,14 @@ mod lines;
 mod message;
 mod names;
 mod outputs;
+mod pace;
 mod print;
 mod progress;
 mod refusals;
 mod shell;
 mod usage;
 mod vectors;
+mod waiting;
 
 pub use advice::{Advice, NoAdvice, System};
 pub use shell::{carry_out, program, refuse_words, run, run_plain};

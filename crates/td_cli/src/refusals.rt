@@ -185,6 +185,12 @@ pub(crate) fn too_long(text: &mut Text) -> Result<(), AllocError> {
     )
 }
 
+/// Appends that a run, or a check, wasn't done in time.
+pub(crate) fn out_of_time(text: &mut Text) -> Result<(), AllocError> {
+    text.push(b"the seconds were over before this was done")?;
+    help(text, b"more --seconds, or none")
+}
+
 /// Appends why a file can't be read, where the system says it.
 pub(crate) fn unreadable(
     text: &mut Text,

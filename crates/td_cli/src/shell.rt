@@ -28,6 +28,7 @@ use td_answer::{Outcome, Refusal, Status, answer_plain};
 use td_command::{Words, asked};
 use td_files::{Files, ReadFault};
 use td_request::{Command, Request};
+use td_stop::Stop;
 use td_text::Sink;
 
 /// The program: carries out what the words of a command line ask for, and answers how it ends. The
@@ -75,8 +76,8 @@ pub fn run<R: Threads + Wait + Clock + Sync, S: AsStr, F: Files, O: Sink, E: Sin
     program(rt, alloc, words, files, out, err, &NoAdvice)
 }
 
-/// As `run`, without threads. None, with nothing read or written, where the words ask for `worst`,
-/// whose search needs threads.
+/// As `run`, without threads, so that no `--seconds` ends it. None, with nothing read or written,
+/// where the words ask for `worst`, whose search needs threads.
 pub fn run_plain<S: AsStr, F: Files, O: Sink, E: Sink>(
     alloc: Global,
     words: &[S],
@@ -198,7 +199,7 @@ fn carry_out_plain<F: Files, O: Sink, E: Sink>(
         Err(fault) => return tell_fault(alloc, fault, err),
     };
     let texts = bytes.texts();
-    match answer_plain(alloc, request, &texts) {
+    match answer_plain(alloc, request, &texts, &Stop::never()) {
         Ok(outcome) => finish(alloc, request, &outcome, files, out, err, &NoAdvice),
         Err(refusal) => tell_refusal(alloc, &refusal, err),
     }

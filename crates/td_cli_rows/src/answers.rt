@@ -13,7 +13,7 @@ use td_gates::Delay;
 use td_inputs::{Given, Taken, Topic};
 use td_lines::{Text, print_text};
 use td_pool::Unwatched;
-use td_reading::{Reading, Told};
+use td_reading::{Outputs, Reading, Told};
 use td_request::{
     Bound, Check, Command, Count, Effort, Files, Form, Inputs, Join, Parts, Path, Question,
     Request, Search, Shown, Sim, Strategy, Table,
@@ -34,6 +34,7 @@ pub const ALONE: Shown = Shown {
     outputs: false,
     progress: false,
     work: false,
+    vectors: false,
 };
 
 /// A certificate about the pairs in which the first input rises and the second one stays.
@@ -60,6 +61,7 @@ const BESIDE: Shown = Shown {
     outputs: true,
     progress: false,
     work: false,
+    vectors: false,
 };
 
 /// Conditions on the first input, which contradict each other.
@@ -122,6 +124,7 @@ pub fn search(
             workers: 1,
             budget: budget.min(1000),
             seconds: None,
+            memory: None,
         },
         stop: None,
         certificate: None,
@@ -143,6 +146,19 @@ pub fn answered<R: Threads + Wait + Sync>(
 ) -> Result<Outcome, Refusal<'static, 'static>>
     ensures { IfOk result CanBeWritten }
 {
+    answered_until(rt, alloc, command, certificates, &Stop::never())
+}
+
+/// The same, unless the stop is set before.
+fn answered_until<R: Threads + Wait + Sync>(
+    rt: &R,
+    alloc: Global,
+    command: Command<'static>,
+    certificates: &[Vec<u8>],
+    stop: &Stop,
+) -> Result<Outcome, Refusal<'static, 'static>>
+    ensures { IfOk result CanBeWritten }
+{
     let Some(reading) = reading(alloc) else {
         return Err(Refusal::TooLong);
     };
@@ -158,7 +174,7 @@ pub fn answered<R: Threads + Wait + Sync>(
         certificates,
         keep: None,
     };
-    answer(rt, alloc, &request, &texts, &Stop::never(), &mut Unwatched)
+    answer(rt, alloc, &request, &texts, stop, &mut Unwatched)
 }
 
 /// Whether a command ends with this status and this report, or this sentence.
@@ -170,8 +186,22 @@ pub fn says<R: Threads + Wait + Sync>(
     status: Status,
     said: &[u8],
 ) -> Result<bool, Fail> {
+    let stop = Stop::never();
+    says_until(rt, alloc, command, certificates, &stop, status, said)
+}
+
+/// The same of a command by a stop.
+fn says_until<R: Threads + Wait + Sync>(
+    rt: &R,
+    alloc: Global,
+    command: Command<'static>,
+    certificates: &[Vec<u8>],
+    stop: &Stop,
+    status: Status,
+    said: &[u8],
+) -> Result<bool, Fail> {
     let mut text = Text::new(alloc);
-    let ended = match answered(rt, alloc, command, certificates) {
+    let ended = match answered_until(rt, alloc, command, certificates, stop) {
         Ok(outcome) => {
             print_text(&mut text, outcome.report.lines())?;
             outcome.status
@@ -211,6 +241,7 @@ fn checked() -> Command<'static> {
             fall: false,
             outputs: false,
         },
+        seconds: None,
     })
 }
 
@@ -305,6 +336,23 @@ fn checks_conditions(rt: HostRuntime) -> Result<(), Fail> {
     Ok(())
 }
 
+/// A check is whole by a stop that isn't set, and has no verdict by one that is.
+#[test]
+fn check_ends_by_a_stop(rt: HostRuntime) -> Result<(), Fail> {
+    let alloc = rt.alloc();
+    let mut texts = Vec::new(alloc);
+    texts.push(Vec::from_slice(alloc, KEPT)?)?;
+    let stop = Stop::new();
+    let whole = b"accepted 5\nkeep 2 01 3 ==\n";
+    assert!(rt; says_until(&rt, alloc, checked(), &texts, &stop, Status::Done, whole)?);
+    stop.set();
+    let found = answered_until(&rt, alloc, checked(), &texts, &stop);
+    assert!(rt; matches!(found, Err(Refusal::OutOfTime)));
+    let late = b"tdelay: out of time\n";
+    assert!(rt; says_until(&rt, alloc, checked(), &texts, &stop, Status::Between, late)?);
+    Ok(())
+}
+
 /// Two parts of a question are joined, in either way; parts that overlap aren't, nor one alone, nor
 /// parts of another question.
 #[test]
@@ -362,6 +410,8 @@ fn runs(rt: HostRuntime) -> Result<(), Fail> {
         inputs: pinned(None),
         outputs: true,
         dump: None,
+        nets: Outputs::new(Vec::new(alloc)),
+        seconds: None,
     });
     let report = b"unit 1 ns\ndefaulted 0\nlast y never\nlast z 4\ntime 4\noutput z\n";
     assert!(rt; says(&rt, alloc, sim, &[], Status::Done, report)?);
@@ -370,6 +420,7 @@ fn runs(rt: HostRuntime) -> Result<(), Fail> {
         to: "01",
         inputs: pinned(None),
         output: None,
+        seconds: None,
     });
     let way = b"unit 1 ns\ndefaulted 0\nchange 0 b 0 1 input\nchange 4 z 0 1 xor 4\n";
     assert!(rt; says(&rt, alloc, path, &[], Status::Done, way)?);
@@ -378,6 +429,7 @@ fn runs(rt: HostRuntime) -> Result<(), Fail> {
         to: "01",
         inputs: pinned(None),
         output: Some("y"),
+        seconds: None,
     });
     assert!(rt;
         says(
@@ -394,6 +446,7 @@ fn runs(rt: HostRuntime) -> Result<(), Fail> {
         to: "01",
         inputs: pinned(None),
         output: Some("q"),
+        seconds: None,
     });
     let missing = b"tdelay: no output of this name\n";
     assert!(rt; says(&rt, alloc, none, &[], Status::BadCommand, missing)?);

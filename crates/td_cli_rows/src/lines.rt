@@ -6,7 +6,8 @@ use std::test::*;
 use td_gates::{Kind, Level};
 use td_lines::{
     Cause, Change, Changes, Driver, Figure, Found, Hazard, HazardRow, Label, Last, Line, Moments,
-    Part, Place, Report, Requirement, Row, Span, Standing, Text, Vector, print_json, print_text,
+    Part, Place, Report, Requirement, Row, Span, Standing, Text, Vector, Vectors, print_json,
+    print_text,
 };
 use td_nets::{Scale, Unit};
 
@@ -141,6 +142,10 @@ fn searched(alloc: Global) -> Result<Report, AllocError> {
         output: label(alloc, "y")?,
         found: Found::Exact(5),
         edges: Some(7),
+        pair: Some(Vectors {
+            from: bits(alloc, &[false, true])?,
+            to: bits(alloc, &[])?,
+        }),
         changes: None,
         required: None,
     })?;
@@ -148,6 +153,7 @@ fn searched(alloc: Global) -> Result<Report, AllocError> {
         output: label(alloc, "exact")?,
         found: Found::Between { low: 2, high: 5 },
         edges: None,
+        pair: None,
         changes: None,
         required: None,
     })?;
@@ -155,6 +161,7 @@ fn searched(alloc: Global) -> Result<Report, AllocError> {
         output: label(alloc, "z")?,
         found: Found::AtMost(5),
         edges: Some(5),
+        pair: None,
         changes: None,
         required: None,
     })?;
@@ -162,6 +169,7 @@ fn searched(alloc: Global) -> Result<Report, AllocError> {
         output: label(alloc, "w")?,
         found: Found::NoPair,
         edges: Some(3),
+        pair: None,
         changes: None,
         required: None,
     })?;
@@ -169,6 +177,10 @@ fn searched(alloc: Global) -> Result<Report, AllocError> {
         output: label(alloc, "v")?,
         found: Found::Exact(5),
         edges: Some(5),
+        pair: Some(Vectors {
+            from: bits(alloc, &[true])?,
+            to: bits(alloc, &[false])?,
+        }),
         changes: Some(Changes {
             rise: Found::Exact(5),
             fall: Found::Between { low: 2, high: 4 },
@@ -180,6 +192,7 @@ fn searched(alloc: Global) -> Result<Report, AllocError> {
         output: label(alloc, "u")?,
         found: Found::NoPair,
         edges: None,
+        pair: None,
         changes: Some(Changes {
             rise: Found::NoPair,
             fall: Found::AtMost(4),
@@ -207,6 +220,7 @@ fn required_row(
         output: label(alloc, name)?,
         found,
         edges: Some(5),
+        pair: None,
         changes: None,
         required: Some(required),
     })

@@ -121,9 +121,18 @@ certificate_rule = with_letter out_letter (option (codes "cert"))
 abbrev pub outputs_rule : Rule
 outputs_rule = record (option (codes "output")) { action = Some Append }
 
+-- which nets a dump has, of which any number may be named
+abbrev pub nets_rule : Rule
+nets_rule = record (option (codes "net")) { action = Some Append }
+
+-- after how many seconds a run ends
+abbrev pub seconds_rule : Rule
+seconds_rule = count_option (codes "seconds")
+
 -- how much a search may do, and what ends it before
 abbrev pub limit_rules : List Rule
-limit_rules = number_option (codes "budget") 0 10000000 (codes "1000000") ∷ count_option (codes "seconds") ∷ option (codes "stop") ∷ []
+limit_rules =
+    number_option (codes "budget") 0 10000000 (codes "1000000") ∷ seconds_rule ∷ count_option (codes "memory") ∷ option (codes "stop") ∷ []
 
 -- how a search goes, when its answer is enough, and where its certificate goes
 abbrev pub search_rules : Listed → List Rule
@@ -136,10 +145,11 @@ abbrev pub command_of : Text → List Rule → App
 command_of name rules = fold with_rule (new_app name) (rules ++ common_rules)
 
 abbrev pub sim_command : App
-sim_command = command_of (codes "sim") (pair_rules ++ option (codes "at") ∷ option (codes "vcd") ∷ flag (codes "outputs") ∷ [])
+sim_command =
+    command_of (codes "sim") (pair_rules ++ option (codes "at") ∷ option (codes "vcd") ∷ nets_rule ∷ flag (codes "outputs") ∷ seconds_rule ∷ [])
 
 abbrev pub path_command : App
-path_command = command_of (codes "path") (pair_rules ++ option (codes "at") ∷ option (codes "output") ∷ [])
+path_command = command_of (codes "path") (pair_rules ++ option (codes "at") ∷ option (codes "output") ∷ seconds_rule ∷ [])
 
 abbrev pub bound_command : App
 bound_command =
@@ -148,7 +158,7 @@ bound_command =
 
 -- which table is asked for, of each output by itself
 abbrev pub table_rules : List Rule
-table_rules = flag (codes "each") ∷ flag (codes "changes") ∷ flag (codes "figures") ∷ flag (codes "hazards") ∷ []
+table_rules = flag (codes "each") ∷ flag (codes "changes") ∷ flag (codes "figures") ∷ flag (codes "vectors") ∷ flag (codes "hazards") ∷ []
 
 abbrev pub worst_command : Listed → App
 worst_command strategies =
@@ -166,7 +176,7 @@ join_command =
     ∷ flag (codes "no-check") ∷ admitted_rules ++ option (codes "at") ∷ outputs_rule ∷ [])
 
 abbrev pub check_command : App
-check_command = command_of (codes "check") (needed (codes "FILE") ∷ needed (codes "CERT") ∷ outputs_rule ∷ [])
+check_command = command_of (codes "check") (needed (codes "FILE") ∷ needed (codes "CERT") ∷ outputs_rule ∷ seconds_rule ∷ [])
 
 abbrev pub info_command : App
 info_command = command_of (codes "info") (needed (codes "FILE") ∷ [])

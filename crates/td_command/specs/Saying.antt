@@ -25,7 +25,7 @@ use Rattle.td_request.specs.declared.request.Parts.{Parts}
 use Rattle.td_request.specs.declared.request.Join.{Join}
 use Rattle.td_request.specs.declared.request.Check.{Check}
 use Rattle.td_request.specs.declared.request.Request.{Request}
-use Rattle.td_command.specs.CommandLine.{HasCount, HasWord, HasWords, HasFlag, LacksFlag, HasNumber, HasReading, HasWholeReading, IsGiven, IsTold, kinds_of, program}
+use Rattle.td_command.specs.CommandLine.{HasCount, HasWord, HasWords, HasFlag, LacksFlag, HasNumber, HasReading, HasWholeReading, IsGiven, IsTold, kinds_of, program, words_of}
 use Rattle.td_command.specs.Tables.{SaysTables}
 use Rattle.td_command.specs.declared.words.Words.{Words}
 use Rattle.td_command.specs.declared.requests.Common.{Common}
@@ -58,6 +58,7 @@ pub record SaysEffort (rows : List Row) (said : Effort) : Type 0 where
   pub workers : HasNumber (codes "workers") rows said.workers
   pub budget : HasNumber (codes "budget") rows said.budget
   pub seconds : HasCount (codes "seconds") rows said.seconds
+  pub memory : HasCount (codes "memory") rows said.memory
 
 -- with JSON, it is asked for always
 abbrev pub SaysWork : List Row → Bool → Type 0
@@ -69,6 +70,7 @@ pub record SaysShown (rows : List Row) (said : Shown) : Type 0 where
   pub outputs : HasFlag (codes "outputs") rows said.outputs
   pub progress : HasFlag (codes "progress") rows said.progress
   pub work : SaysWork rows said.work
+  pub vectors : HasFlag (codes "vectors") rows said.vectors
 
 pub record SaysSim (rows : List Row) (named : List Taken) (said : Sim) : Type 0 where
   pub from : IsGiven (codes "FROM") rows said.from
@@ -76,12 +78,15 @@ pub record SaysSim (rows : List Row) (named : List Taken) (said : Sim) : Type 0 
   pub inputs : SaysInputs rows named said.inputs
   pub outputs : HasFlag (codes "outputs") rows said.outputs
   pub dump : HasWord (codes "vcd") rows said.dump
+  pub nets : said.nets ≡ words_of (codes "net") rows
+  pub seconds : HasCount (codes "seconds") rows said.seconds
 
 pub record SaysPath (rows : List Row) (named : List Taken) (said : Path) : Type 0 where
   pub from : IsGiven (codes "FROM") rows said.from
   pub to : IsGiven (codes "TO") rows said.to
   pub inputs : SaysInputs rows named said.inputs
   pub output : HasWord (codes "output") rows said.output
+  pub seconds : HasCount (codes "seconds") rows said.seconds
 
 pub record SaysBound (rows : List Row) (named : List Taken) (said : Bound) : Type 0 where
   pub inputs : SaysInputs rows named said.inputs
@@ -119,6 +124,7 @@ pub record SaysJoin (rows : List Row) (named : List Taken) (said : Join) : Type 
 pub record SaysCheck (rows : List Row) (said : Check) : Type 0 where
   pub certificate : IsGiven (codes "CERT") rows said.certificate
   pub told : IsTold rows said.told
+  pub seconds : HasCount (codes "seconds") rows said.seconds
 
 -- the command of this name says this
 abbrev pub SaysCommand : Text → List Row → List Taken → Command → Type 0

@@ -14,6 +14,7 @@ pub record SaysFlags (rows : List Row) (flags : Flags) : Type 0 where
   pub each : HasFlag (codes "each") rows flags.each
   pub changes : HasFlag (codes "changes") rows flags.changes
   pub figures : HasFlag (codes "figures") rows flags.figures
+  pub vectors : HasFlag (codes "vectors") rows flags.vectors
   pub hazards : HasFlag (codes "hazards") rows flags.hazards
 
 -- the table that the options ask for: that of hazards, or else of each output's delays, with its
@@ -28,7 +29,8 @@ abbrev pub stray_by : Flags → Option Stray
 stray_by flags =
     cond (flags.hazards && (flags.each || (flags.changes || flags.figures))) (Some stray.Hazards)
     (cond (flags.changes && not flags.each) (Some stray.Changes)
-    (cond (flags.figures && not flags.changes) (Some stray.Figures) None))
+    (cond (flags.figures && not flags.changes) (Some stray.Figures)
+    (cond (flags.vectors && not flags.each) (Some stray.Vectors) None)))
 
 -- the words say this of tables
 pub record SaysTables (rows : List Row) (said : Said) : Type 0 where

@@ -67,7 +67,9 @@ impl<'a> Commands<'a> {
         arguments.pair()?;
         arguments.moments()?;
         arguments.vcd()?;
+        arguments.nets()?;
         arguments.outputs(LATEST_HELP)?;
+        arguments.seconds()?;
         arguments.common()?;
         self.add(
             "sim",
@@ -84,6 +86,7 @@ impl<'a> Commands<'a> {
         arguments.pair()?;
         arguments.moments()?;
         arguments.output(CHAIN_HELP)?;
+        arguments.seconds()?;
         arguments.common()?;
         self.add(
             "path",
@@ -180,6 +183,7 @@ answers each",
         arguments.file()?;
         arguments.certificate()?;
         arguments.asked_outputs()?;
+        arguments.seconds()?;
         arguments.common()?;
         self.add(
             "check",

@@ -98,7 +98,11 @@ pub(crate) fn default(matches: &ArgMatches<'_>) -> Option<Delay>
 }
 
 /// The words of an option that may be given any number of times, in order.
-fn outputs<'a>(alloc: Global, matches: &ArgMatches<'a>, id: &str) -> Result<Outputs<'a>, AllocError>
+pub(crate) fn outputs<'a>(
+    alloc: Global,
+    matches: &ArgMatches<'a>,
+    id: &str,
+) -> Result<Outputs<'a>, AllocError>
     ensures { IfOk result (λ outputs. outputs ≡ words_of id.now (rows_of (found_of matches.now))) }
 {
     let mut names = Vec::new(alloc);

@@ -3,18 +3,18 @@
 ghost use Rattle.std.specs.Prelude.{◌≡◌, List, codes, IfOk};
 ghost use Rattle.clap.specs.Words.{found_of, rows_of, subcommand_rows_of};
 ghost use Rattle.td_inputs.specs.declared.scanning.Taken.{Taken};
-ghost use Rattle.td_command.specs.CommandLine.{HasWords, IsAnswered};
+ghost use Rattle.td_command.specs.CommandLine.{HasWords, IsAnswered, words_of};
 ghost use Rattle.td_command.specs.Saying.{SaysInputs, SaysQuestion, SaysStrategy, SaysEffort, SaysShown, SaysForm, is_about_all, SaysReading, SaysCommon, SaysCommand, SaysRequest, EntersRequest};
 
 use crate::options::{
-    budget, count, files, flag_given, flag_left_out, needed, parts as parts_number, reading, told,
-    whole_reading, word, workers,
+    budget, count, files, flag_given, flag_left_out, needed, outputs, parts as parts_number,
+    reading, told, whole_reading, word, workers,
 };
 use crate::tables::{Tables, tables_in};
 use clap::ArgMatches;
 use std::alloc::{AllocError, Global};
 use td_inputs::{Given, Taken};
-use td_reading::Reading;
+use td_reading::{Outputs, Reading};
 use td_request::{
     Bound, Check, Command, Count, Effort, Files, Form, Inputs, Join, Parts, Path, Question,
     Request, Search, Shown, Sim, Strategy,
@@ -71,10 +71,12 @@ fn effort(matches: &ArgMatches<'_>) -> Option<Effort>
     let workers = workers(matches)?;
     let budget = budget(matches)?;
     let seconds = count(matches, "seconds")?;
+    let memory = count(matches, "memory")?;
     Some(Effort {
         workers,
         budget,
         seconds,
+        memory,
     })
 }
 
@@ -86,20 +88,29 @@ fn shown(matches: &ArgMatches<'_>) -> Option<Shown>
     let progress = flag_given(matches, "progress")?;
     let verbose = flag_given(matches, "verbose")?;
     let json = flag_given(matches, "json")?;
+    let vectors = flag_given(matches, "vectors")?;
     Some(Shown {
         path,
         outputs,
         progress,
         work: verbose || json,
+        vectors,
     })
 }
 
-fn sim<'a>(matches: &ArgMatches<'a>, named: &'a [Taken<'a>]) -> Option<Command<'a>>
+/// `sim` with the waves of these nets.
+fn sim_of<'a>(
+    matches: &ArgMatches<'a>,
+    named: &'a [Taken<'a>],
+    nets: Outputs<'a>,
+) -> Option<Command<'a>>
+    requires { nets ≡ words_of (codes "net") (rows_of (found_of matches.now)) }
     ensures { IsAnswered (SaysCommand (codes "sim") (rows_of (found_of matches.now)) named.entry.now) result }
 {
     let from = needed(matches, "FROM")?;
     let to = needed(matches, "TO")?;
     let outputs = flag_given(matches, "outputs")?;
+    let seconds = count(matches, "seconds")?;
     let dump = word(matches, "vcd");
     let inputs = inputs(matches, named);
     Some(Command::Sim(Sim {
@@ -108,7 +119,20 @@ fn sim<'a>(matches: &ArgMatches<'a>, named: &'a [Taken<'a>]) -> Option<Command<'
         inputs,
         outputs,
         dump,
+        nets,
+        seconds,
     }))
+}
+
+fn sim<'a>(
+    alloc: Global,
+    matches: &ArgMatches<'a>,
+    named: &'a [Taken<'a>],
+) -> Result<Option<Command<'a>>, AllocError>
+    ensures { IfOk result (IsAnswered (SaysCommand (codes "sim") (rows_of (found_of matches.now)) named.entry.now)) }
+{
+    let nets = outputs(alloc, matches, "net")?;
+    Ok(sim_of(matches, named, nets))
 }
 
 fn path<'a>(matches: &ArgMatches<'a>, named: &'a [Taken<'a>]) -> Option<Command<'a>>
@@ -116,6 +140,7 @@ fn path<'a>(matches: &ArgMatches<'a>, named: &'a [Taken<'a>]) -> Option<Command<
 {
     let from = needed(matches, "FROM")?;
     let to = needed(matches, "TO")?;
+    let seconds = count(matches, "seconds")?;
     let output = word(matches, "output");
     let inputs = inputs(matches, named);
     Some(Command::Path(Path {
@@ -123,6 +148,7 @@ fn path<'a>(matches: &ArgMatches<'a>, named: &'a [Taken<'a>]) -> Option<Command<
         to,
         inputs,
         output,
+        seconds,
     }))
 }
 
@@ -229,8 +255,13 @@ fn check<'a>(matches: &ArgMatches<'a>) -> Option<Command<'a>>
     ensures { (named : List Taken) → IsAnswered (SaysCommand (codes "check") (rows_of (found_of matches.now)) named) result }
 {
     let certificate = needed(matches, "CERT")?;
+    let seconds = count(matches, "seconds")?;
     let told = told(matches);
-    Some(Command::Check(Check { certificate, told }))
+    Some(Command::Check(Check {
+        certificate,
+        told,
+        seconds,
+    }))
 }
 
 /// In which form the report goes out.
@@ -258,7 +289,7 @@ fn command_of<'a>(
     ensures { IfOk result (IsAnswered (SaysCommand name.now (rows_of (found_of matches.now)) named.entry.now)) }
 {
     match name {
-        "sim" => Ok(sim(matches, named)),
+        "sim" => sim(alloc, matches, named),
         "path" => Ok(path(matches, named)),
         "bound" => Ok(bound(matches, named)),
         "worst" => Ok(worst(matches, named)),

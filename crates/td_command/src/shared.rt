@@ -2,11 +2,11 @@
 
 ghost use Rattle.std.specs.Prelude.{◌≡◌, ◌++◌, [], ◌∷◌, codes, OnOk};
 ghost use Rattle.td_command.specs.CommandLine.{needed, needed_words, needed_number, option, number_option, count_option, flag};
-ghost use Rattle.td_command.specs.CommandLine.{with_letter, workers_letter, quiet_letter, common_rules, pair_rules, cube_rules, held_rules, flips_rule, admitted_rules, required_rule, strategy_rule, certificate_rule, outputs_rule, limit_rules, search_rules, table_rules};
+ghost use Rattle.td_command.specs.CommandLine.{with_letter, workers_letter, quiet_letter, common_rules, pair_rules, cube_rules, held_rules, flips_rule, admitted_rules, required_rule, strategy_rule, certificate_rule, outputs_rule, nets_rule, seconds_rule, limit_rules, search_rules, table_rules};
 ghost use Rattle.td_command.specs.Telling.{TellsRule, TellsRules};
 
 use crate::arguments::{Arguments, flag, number, option};
-use crate::help::{LATEST_HELP, OUTPUT_HELP, REQUIRED_HELP};
+use crate::help::{LATEST_HELP, NET_HELP, OUTPUT_HELP, REQUIRED_HELP, SECONDS_HELP};
 use clap::ArgAction;
 use std::alloc::AllocError;
 use td_gates::Delay;
@@ -94,6 +94,21 @@ time of the input of this name, as often as needed",
         )
     }
 
+    /// Which nets these waves have, as an option that may be given any number of times.
+    pub(crate) fn nets(&mut self) -> Result<(), AllocError>
+        ensures { OnOk result (TellsRule nets_rule self.old self.new) }
+    {
+        let net = option(self.alloc, "net", "NAME", NET_HELP);
+        self.add(net.action(ArgAction::Append))
+    }
+
+    /// After how many seconds a run ends, as an option.
+    pub(crate) fn seconds(&mut self) -> Result<(), AllocError>
+        ensures { OnOk result (TellsRule seconds_rule self.old self.new) }
+    {
+        self.count("seconds", SECONDS_HELP)
+    }
+
     /// Which output's path is asked for, as an option.
     pub(crate) fn output(&mut self, help: &'a str) -> Result<(), AllocError>
         ensures { OnOk result (TellsRule (option (codes "output")) self.old self.new) }
@@ -133,6 +148,11 @@ and whether it can glitch",
         self.flag(
             "figures",
             "With --each --changes: also how late the output can glitch",
+        )?;
+        self.flag(
+            "vectors",
+            "With --each: also a pair of vectors that has the worst delay, or the\n\
+lower figure",
         )?;
         self.flag(
             "hazards",
@@ -220,7 +240,7 @@ given pair, as `path` prints them",
             "progress",
             "Writes to standard error how far the search is, each time that the\n\
 nodes handled pass 1, 2, 5, 10, 20, .. thousand, and every ten seconds;\n\
-with --each, each output as it is begun",
+with --each, each output as it is begun, and its line once it is found",
         )?;
         self.flag(
             "verbose",
@@ -356,10 +376,11 @@ figures",
             "The most nodes of trees of cubes that are handled, and the most work\n\
 of `refute`, in units",
         )?;
+        self.seconds()?;
         self.count(
-            "seconds",
-            "Ends the whole run, tables too, after this many seconds of the clock;\n\
-what is open then lies between two figures",
+            "memory",
+            "The search ends before its search by spans takes about this much\n\
+memory, in MiB; what it leaves open then lies between two figures",
         )?;
         self.option(
             "stop",

@@ -15,6 +15,7 @@ struct Flags {
     each: bool,
     changes: bool,
     figures: bool,
+    vectors: bool,
     hazards: bool,
 }
 
@@ -56,6 +57,9 @@ fn stray_by(flags: Flags) -> Option<Stray>
     if flags.figures && !flags.changes {
         return Some(Stray::Figures);
     }
+    if flags.vectors && !flags.each {
+        return Some(Stray::Vectors);
+    }
     None
 }
 
@@ -66,11 +70,13 @@ fn flags_in(matches: &ArgMatches<'_>) -> Option<Flags>
     let each = flag_given(matches, "each")?;
     let changes = flag_given(matches, "changes")?;
     let figures = flag_given(matches, "figures")?;
+    let vectors = flag_given(matches, "vectors")?;
     let hazards = flag_given(matches, "hazards")?;
     Some(Flags {
         each,
         changes,
         figures,
+        vectors,
         hazards,
     })
 }

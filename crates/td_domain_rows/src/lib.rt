@@ -1,11 +1,13 @@
-//! The event queue, sheets and sinks, and calls that no command makes. There are tests here, and
-//! nothing else.
+//! The event queue, sheets, sinks and kept waves, and calls that no command makes. There are tests
+//! here, and nothing else.
 #![tactic(auto)]
 
 #[cfg(test)]
 mod circuits;
 #[cfg(test)]
 mod keeping;
+#[cfg(test)]
+mod kept;
 #[cfg(test)]
 mod queue;
 #[cfg(test)]
@@ -16,6 +18,8 @@ mod sheets;
 mod sinks;
 #[cfg(test)]
 mod spans;
+#[cfg(test)]
+mod stopped;
 #[cfg(test)]
 mod texts;
 #[cfg(test)]

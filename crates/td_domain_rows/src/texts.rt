@@ -81,3 +81,23 @@ pub fn generated_text(
     let output = format!(in alloc; "w{last}")?;
     module(alloc, names, &output, &text)
 }
+
+/// The text of a module whose changes double from level to level once its first input changes: each
+/// level is an xor of the level before and a delayed copy of it, whose delays halve. The second
+/// input has a buffer of delay 3.
+pub fn doubling_text(alloc: Global, levels: u32) -> Result<String, AllocError> {
+    let mut delay = 1u64;
+    for _ in 0..levels {
+        delay = delay.saturating_mul(2);
+    }
+    let mut text = format!(in alloc; "buf #3 (z,b);\n")?;
+    for level in 0..levels {
+        let next = level.saturating_add(1);
+        text.push_str(&format!(in alloc;
+            "buf #{delay} (c{level},x{level});\nxor #1 (x{next},x{level},c{level});\n"
+        )?)?;
+        delay /= 2;
+    }
+    let outputs = format!(in alloc; "x{levels},z")?;
+    module(alloc, "x0,b", &outputs, &text)
+}

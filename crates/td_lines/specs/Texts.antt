@@ -24,6 +24,7 @@ use Rattle.td_lines.specs.declared.line.Found.TheVariants as found
 use Rattle.td_lines.specs.declared.line.Changes.{Changes}
 use Rattle.td_lines.specs.declared.line.Requirement.{Requirement}
 use Rattle.td_lines.specs.declared.line.Row.{Row}
+use Rattle.td_lines.specs.declared.line.Vectors.{Vectors}
 use Rattle.td_lines.specs.declared.line.Hazard.{Hazard}
 use Rattle.td_lines.specs.declared.line.Hazard.TheVariants as hazard
 use Rattle.td_lines.specs.declared.line.HazardRow.{HazardRow}
@@ -146,6 +147,11 @@ found_text found.NoPair = codes "none"
 abbrev pub edges_text : Option ℕ → List ℕ
 edges_text bound = codes " edges " ++ bound_text bound
 
+-- a pair that has the figure, or the lower one, where there is one
+abbrev pub pair_text : Option Vectors → List ℕ
+pair_text None = []
+pair_text (Some pair) = codes " from " ++ bits pair.from ++ codes " to " ++ bits pair.to
+
 -- a moment after 0, if this is one
 abbrev pub late : ℕ → Option ℕ
 late time = if time == 0 then None else Some time
@@ -180,10 +186,14 @@ requirement_text None found = []
 requirement_text (Some required) found =
     codes " required " ++ standing_text required.standing ++ codes " slack " ++ slacks_text required.moment found
 
+abbrev pub figures_text : Row → List ℕ
+figures_text row = codes "each " ++ row.output ++ codes " " ++ found_text row.found ++ edges_text row.edges
+
+abbrev pub columns_text : Row → List ℕ
+columns_text row = pair_text row.pair ++ changes_text row.changes ++ requirement_text row.required row.found
+
 abbrev pub row_line : Row → List ℕ
-row_line row =
-    codes "each " ++ row.output ++ codes " " ++ found_text row.found ++ edges_text row.edges ++ changes_text row.changes
-    ++ requirement_text row.required row.found ++ newline
+row_line row = figures_text row ++ columns_text row ++ newline
 
 -- a pair of vectors, or why there is none
 abbrev pub hazard_text : Hazard → List ℕ

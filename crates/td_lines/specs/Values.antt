@@ -23,6 +23,7 @@ use Rattle.td_lines.specs.declared.line.Found.TheVariants as found
 use Rattle.td_lines.specs.declared.line.Changes.{Changes}
 use Rattle.td_lines.specs.declared.line.Requirement.{Requirement}
 use Rattle.td_lines.specs.declared.line.Row.{Row}
+use Rattle.td_lines.specs.declared.line.Vectors.{Vectors}
 use Rattle.td_lines.specs.declared.line.Hazard.{Hazard}
 use Rattle.td_lines.specs.declared.line.Hazard.TheVariants as hazard
 use Rattle.td_lines.specs.declared.line.HazardRow.{HazardRow}
@@ -130,10 +131,17 @@ requirement_value (Some required) found =
     item (string (codes "required")) (item (string (standing_text required.standing)) (item (string (codes "slack"))
     (item (slacks_value required.moment found) no_items)))
 
--- the bound by edges of a row, what is found by the levels, and how a required moment stands
+-- a pair, where there is one, and the items after it
+abbrev pub pair_value : Option Vectors → Items → Items
+pair_value None others = others
+pair_value (Some pair) others =
+    item (string (codes "from")) (item (string (bits pair.from)) (item (string (codes "to")) (item (string (bits pair.to)) others)))
+
+-- the bound by edges of a row, its pair, what is found by the levels, and how a required moment stands
 abbrev pub edges_value : Row → Items
 edges_value row =
-    item (string (codes "edges")) (item (moment_of row.edges) (changes_value row.changes (requirement_value row.required row.found)))
+    item (string (codes "edges")) (item (moment_of row.edges)
+    (pair_value row.pair (changes_value row.changes (requirement_value row.required row.found))))
 
 abbrev pub found_value : Found → Row → Items
 found_value (found.Exact time) row = item (string (codes "exact")) (item (number (decimal time)) (edges_value row))

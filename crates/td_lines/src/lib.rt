@@ -22,11 +22,12 @@ mod vector;
 pub use label::Label;
 pub use line::{
     Cause, Change, Changes, Driver, Figure, Found, Hazard, HazardRow, Last, Line, Part, Place,
-    Requirement, Row, Span, Standing,
+    Requirement, Row, Span, Standing, Vectors,
 };
 pub use members::print_json;
 pub use moments::Moments;
 pub use report::Report;
+pub use rows::print_row;
 pub use text::print_text;
 pub use texts::Text;
 pub use vector::Vector;

@@ -111,13 +111,22 @@ pub struct Requirement {
     pub standing: Standing,
 }
 
-/// What is found of an output alone: its worst delay, its bound by edges, and its changes and how a
-/// required moment stands, where these are asked for.
+/// A pair of vectors.
+#[derive(Debug, Drop)]
+pub struct Vectors {
+    pub from: Vector,
+    pub to: Vector,
+}
+
+/// What is found of an output alone: its worst delay, its bound by edges, and a pair that has the
+/// figure, or the lower one, its changes and how a required moment stands, where these are asked
+/// for.
 #[derive(Debug, Drop)]
 pub struct Row {
     pub output: Label,
     pub found: Found,
     pub edges: Option<u64>,
+    pub pair: Option<Vectors>,
     pub changes: Option<Changes>,
     pub required: Option<Requirement>,
 }

@@ -3,13 +3,13 @@
 ghost use Rattle.std.specs.Prelude.{◌≡◌, ◌++◌, codes, Some, None, OnOk};
 ghost use Rattle.json.specs.Tree.{json_tokens, items_tokens};
 ghost use Rattle.td_lines.specs.declared.line.Found.TheVariants as FoundAs;
-ghost use Rattle.td_lines.specs.Texts.{found_text, edges_text, late, column_text, changes_text, requirement_text, row_line};
-ghost use Rattle.td_lines.specs.Values.{Adds, column_value, glitch_value, fall_value, changes_value, edges_value, found_value, requirement_value, row_value};
+ghost use Rattle.td_lines.specs.Texts.{found_text, edges_text, pair_text, late, column_text, changes_text, requirement_text, figures_text, columns_text, row_line};
+ghost use Rattle.td_lines.specs.Values.{Adds, column_value, glitch_value, fall_value, changes_value, pair_value, edges_value, found_value, requirement_value, row_value};
 
-use crate::line::{Changes, Found, Row};
-use crate::members::{Valued, below, moment as moment_value, numbers};
+use crate::line::{Changes, Found, Row, Vectors};
+use crate::members::{Valued, below, characters as characters_of, moment as moment_value, numbers};
 use crate::slacks::{requirement, requirement_of};
-use crate::text::{Printed, bound_moment, moment};
+use crate::text::{Printed, bound_moment, characters, moment};
 use crate::texts::Text;
 use json::Writer;
 use std::alloc::{AllocError, Global};
@@ -46,6 +46,24 @@ fn edges(out: &mut Text, edges: Option<u64>) -> Result<(), AllocError>
 {
     out.push(b" edges ")?;
     bound_moment(out, edges)
+}
+
+fn paired(out: &mut Text, pair: &Vectors) -> Result<(), AllocError>
+    ensures { OnOk result (out.new ≡ out.old ++ pair_text (Some pair.now)) }
+{
+    out.push(b" from ")?;
+    characters(out, pair.from.bits())?;
+    out.push(b" to ")?;
+    characters(out, pair.to.bits())
+}
+
+fn pair(out: &mut Text, pair: &Option<Vectors>) -> Result<(), AllocError>
+    ensures { OnOk result (out.new ≡ out.old ++ pair_text pair.now) }
+{
+    match pair {
+        None => Ok(()),
+        Some(pair) => paired(out, pair),
+    }
 }
 
 fn column_between(out: &mut Text, low: u64, high: u64) -> Result<(), AllocError>
@@ -86,17 +104,39 @@ fn changes(out: &mut Text, changes: &Option<Changes>) -> Result<(), AllocError>
     }
 }
 
+/// What is found of an output, and its bound by edges.
+fn figures(out: &mut Text, row: &Row) -> Result<(), AllocError>
+    ensures { OnOk result (out.new ≡ out.old ++ figures_text row.now) }
+{
+    out.word_between(b"each ", row.output.text(), b" ")?;
+    found(out, row.found)?;
+    edges(out, row.edges)
+}
+
+/// What else is asked for.
+fn columns(out: &mut Text, row: &Row) -> Result<(), AllocError>
+    ensures { OnOk result (out.new ≡ out.old ++ columns_text row.now) }
+{
+    pair(out, &row.pair)?;
+    changes(out, &row.changes)?;
+    requirement(out, row.required, row.found)
+}
+
 impl Printed for Row {
     ghost text = { row_line };
 
     fn print(&self, out: &mut Text) -> Result<(), AllocError> {
-        out.word_between(b"each ", self.output.text(), b" ")?;
-        found(out, self.found)?;
-        edges(out, self.edges)?;
-        changes(out, &self.changes)?;
-        requirement(out, self.required, self.found)?;
+        figures(out, self)?;
+        columns(out, self)?;
         out.push(b"\n")
     }
+}
+
+/// Prints the line of a row.
+pub fn print_row(out: &mut Text, row: &Row) -> Result<(), AllocError>
+    ensures { OnOk result (out.new ≡ out.old ++ row_line row.now) }
+{
+    row.print(out)
 }
 
 // ---- JSON
@@ -164,13 +204,41 @@ fn changes_of(alloc: Global, writer: &mut Writer, row: &Row) -> Result<(), Alloc
     }
 }
 
+/// The pair, and what follows it.
+fn vectors_of(
+    alloc: Global,
+    writer: &mut Writer,
+    pair: &Vectors,
+    row: &Row,
+) -> Result<(), AllocError>
+    ensures { OnOk result (Adds writer.old writer.new (items_tokens (pair_value (Some pair.now) (changes_value row.now.changes (requirement_value row.now.required row.now.found))))) }
+{
+    let from = characters_of(alloc, pair.from.bits())?;
+    let to = characters_of(alloc, pair.to.bits())?;
+    writer.string("from")?;
+    writer.string(&from)?;
+    writer.string("to")?;
+    writer.string(&to)?;
+    changes_of(alloc, writer, row)
+}
+
+/// The pair, where it is asked for and known, and what follows it.
+fn pair_of(alloc: Global, writer: &mut Writer, row: &Row) -> Result<(), AllocError>
+    ensures { OnOk result (Adds writer.old writer.new (items_tokens (pair_value row.now.pair (changes_value row.now.changes (requirement_value row.now.required row.now.found))))) }
+{
+    match &row.pair {
+        None => changes_of(alloc, writer, row),
+        Some(pair) => vectors_of(alloc, writer, pair, row),
+    }
+}
+
 /// The bound by edges, and what follows it.
 fn edges_of(alloc: Global, writer: &mut Writer, row: &Row) -> Result<(), AllocError>
     ensures { OnOk result (Adds writer.old writer.new (items_tokens (edges_value row.now))) }
 {
     writer.string("edges")?;
     moment_value(writer, row.edges)?;
-    changes_of(alloc, writer, row)
+    pair_of(alloc, writer, row)
 }
 
 fn exact(alloc: Global, writer: &mut Writer, time: u64, row: &Row) -> Result<(), AllocError>

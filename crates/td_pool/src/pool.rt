@@ -124,10 +124,8 @@ pub fn worst_by<P: Prober + Sync, D: Hints + Drop + Send, R: Threads + Wait + Sy
         admit,
         strategy: Strategy::Least,
     };
-    let limits = Limits {
-        effort: Effort { workers, budget },
-        stop: &Stop::never(),
-    };
+    let never = Stop::never();
+    let limits = Limits::until(Effort { workers, budget }, &never);
     let mut nobody = Unwatched;
     let Ended { answer, .. } = search_by(rt, alloc, &problem, prober, decks, limits, &mut nobody)?;
     Ok(answer)
@@ -165,7 +163,7 @@ pub fn search<P: Prober + Sync, W: Watch, R: Threads + Wait + Sync>(
     // All progress that the watch got is true of what is asked.
     ensures reported { W.reported (problem_of problem.now) watch.old watch.new }
 {
-    let Limits { effort, stop } = limits;
+    let Limits { effort, stop, .. } = limits;
     if effort.workers == 1 && !watch.is_looking() {
         return alone_shown(alloc, problem, effort.budget, stop);
     }
@@ -194,7 +192,7 @@ fn search_by<P: Prober + Sync, D: Hints + Drop + Send, W: Watch, R: Threads + Wa
     if !problem.admit.any(problem.admit.pins()) {
         return Err(SearchFault::NoPair);
     }
-    let Limits { effort, stop } = limits;
+    let Limits { effort, stop, .. } = limits;
     match shared_work(rt, alloc, problem, prober, decks, limits, watch) {
         Ok(work) => Ok(finish_shown(alloc, problem, work, effort.budget, stop)),
         // No pair was measured yet, and one thread answers what is known.
@@ -217,7 +215,7 @@ fn shared_work<P: Prober + Sync, D: Hints + Drop + Send, W: Watch, R: Threads + 
     ensures work { IfOk result (IsShared (problem_of problem.now)) }
     ensures reported { W.reported (problem_of problem.now) watch.old watch.new }
 {
-    let Limits { effort, stop } = limits;
+    let Limits { effort, stop, .. } = limits;
     match problem.strategy {
         Strategy::Least => {
             let rule = Least { prober };

@@ -177,10 +177,8 @@ pub fn found_with<R: Threads + Wait + Sync + Abort>(
         admit: &asked.admit,
         strategy: Strategy::Least,
     };
-    let limits = Limits {
-        effort: Effort { workers, budget },
-        stop: &Stop::never(),
-    };
+    let never = Stop::never();
+    let limits = Limits::until(Effort { workers, budget }, &never);
     match search(rt, alloc, &problem, &Own, limits, &mut Unwatched) {
         Ok(ended) => as_reported(&Ok(ended.answer)),
         Err(fault) => as_reported(&Err(fault)),

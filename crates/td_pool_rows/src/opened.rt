@@ -25,10 +25,8 @@ fn ended_by<R: Threads + Wait + Sync + Abort>(
         admit: &asked.admit,
         strategy,
     };
-    let limits = Limits {
-        effort,
-        stop: &Stop::never(),
-    };
+    let never = Stop::never();
+    let limits = Limits::until(effort, &never);
     match search(rt, alloc, &problem, &Own, limits, &mut Unwatched) {
         Ok(ended) => Ok(ended),
         Err(_) => Err(Fail::from("no answer")),

@@ -75,10 +75,7 @@ fn limits_of(workers: u32, stop: &Stop) -> Limits<'_>
     requires few { workers ≤ 64 }
 {
     let budget = 1_000_000;
-    Limits {
-        effort: Effort { workers, budget },
-        stop,
-    }
+    Limits::until(Effort { workers, budget }, stop)
 }
 
 /// The lower figure of a search that its stop ended, and how many nodes it handled, where a delay

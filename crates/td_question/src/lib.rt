@@ -6,6 +6,7 @@
 #![tactic(auto)]
 
 mod asking;
+mod chosen;
 mod fault;
 mod keep_lines;
 mod keeping;
@@ -19,6 +20,7 @@ pub mod timing;
 pub mod vector;
 
 pub use asking::{Asked, question_of};
+pub use chosen::nets_of;
 pub use fault::QuestionFault;
 pub use keeping::words_of;
 pub use pair::{PairAsked, pair_of};

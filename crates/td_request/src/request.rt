@@ -3,7 +3,7 @@
 use crate::effort::{Count, Effort};
 use crate::files::Files;
 use crate::question::{Inputs, Question};
-use td_reading::{Reading, Told};
+use td_reading::{Outputs, Reading, Told};
 
 /// In which form a report goes out.
 #[derive(Clone, Copy, Debug, PartialEq, Eq, Drop)]
@@ -15,7 +15,7 @@ pub enum Form {
 }
 
 /// The run of a pair of vectors.
-#[derive(Clone, Copy)]
+#[derive(Drop)]
 pub struct Sim<'a> {
     pub from: &'a str,
     pub to: &'a str,
@@ -25,6 +25,10 @@ pub struct Sim<'a> {
     pub outputs: bool,
     /// Where the waves of the run go.
     pub dump: Option<&'a str>,
+    /// The nets that have these waves, as reports print them; all nets where none is named.
+    pub nets: Outputs<'a>,
+    /// After how many seconds the run ends without an outcome.
+    pub seconds: Option<u64>,
 }
 
 /// Why an output changes last when it does, in the run of a pair of vectors.
@@ -36,6 +40,8 @@ pub struct Path<'a> {
     pub inputs: Inputs<'a>,
     /// The output, as reports print it; the one that changes last where there is none.
     pub output: Option<&'a str>,
+    /// After how many seconds the run ends without an outcome.
+    pub seconds: Option<u64>,
 }
 
 /// Bounds of the delays of a cube of pairs.
@@ -74,6 +80,8 @@ pub struct Shown {
     pub progress: bool,
     /// How many units of work the search took.
     pub work: bool,
+    /// The pair of each row of a table.
+    pub vectors: bool,
 }
 
 /// Which table is asked for, of each output by itself.
@@ -95,6 +103,8 @@ pub enum Stray {
     Changes,
     /// `--figures` without `--changes`.
     Figures,
+    /// `--vectors` without `--each`.
+    Vectors,
     /// `--hazards` beside one of the others.
     Hazards,
 }
@@ -154,6 +164,8 @@ pub struct Check<'a> {
     pub certificate: &'a str,
     /// What is said of how the netlist is read.
     pub told: Told,
+    /// After how many seconds the check ends without a verdict.
+    pub seconds: Option<u64>,
 }
 
 /// What is to be done.

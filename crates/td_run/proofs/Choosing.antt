@@ -6,7 +6,7 @@ use Rattle.std.proofs.lemmas.List.{length-map}
 use Rattle.std.proofs.lemmas.List.Elements.{All-head, All-tail}
 use Rattle.td_gates.specs.declared.primitives.Level.{Level}
 use Rattle.td_gates.specs.declared.primitives.Level.TheVariants.{X}
-use Rattle.td_gates.specs.Wave.{Wave}
+use Rattle.td_gates.specs.Wave.{Wave, last}
 use Rattle.td_gates.proofs.Places.{none-some, some-same, map-fuse}
 use Rattle.td_nets.specs.Netlist.{Net}
 use Rattle.td_circuit.specs.Settings.{AreMoments}
@@ -15,7 +15,7 @@ use Rattle.td_circuit.specs.Run.{Runs}
 use Rattle.td_circuit.specs.NetValues.{net_wave}
 use Rattle.td_circuit.proofs.Nets.{few_gates}
 use Rattle.td_run.specs.Waves.{AreWithin, constant}
-use Rattle.td_run.specs.Keeping.{last_moment, wanted_waves, IsKeptOf, AreLater, AreEnds, IsLeftUpTo}
+use Rattle.td_run.specs.Keeping.{wanted_waves, IsKeptOf, AreLater, AreEnds, IsLeftUpTo}
 use Rattle.td_run.proofs.Named.{is_run, only_numbers, same_length}
 use Rattle.td_run.proofs.Gates.{all_small}
 use Rattle.td_run.proofs.Dropping.{left_within}
@@ -80,7 +80,7 @@ wanted_not (w ∷ wanted) (x ∷ waves) (suc n) d inside below is = wanted_not w
 module _ (circuit : Numbered) (firsts seconds : List Level) (numbering : IsNumbering circuit) (fit : AreMoments circuit.netlist circuit.moments)
     (first_fits : length firsts ≡ length circuit.netlist.inputs) (second_fits : length seconds ≡ length circuit.netlist.inputs)
     (ends : List ℕ) (are : AreEnds circuit ends) (wanted : List Bool) (later : AreLater wanted (length circuit.gates) ends)
-    (waves : List Wave) (moments : List ℕ) (so : IsLeftUpTo circuit firsts seconds ends (length circuit.gates) waves moments) where
+    (waves : List Wave) (moments : List (Option ℕ)) (so : IsLeftUpTo circuit firsts seconds ends (length circuit.gates) waves moments) where
   all_long : length so.all ≡ length (nets circuit)
   all_long = same_length circuit firsts seconds numbering fit first_fits second_fits so.all so.outs so.run
 
@@ -88,7 +88,7 @@ module _ (circuit : Numbered) (firsts seconds : List Level) (numbering : IsNumbe
   left_long = so.left.count ∙ all_long
 
   pub lasts_long : length moments ≡ length (nets circuit)
-  lasts_long = ap length so.lasts ∙ length-map so.all last_moment ∙ all_long
+  lasts_long = ap length so.lasts ∙ length-map so.all last ∙ all_long
 
   -- each run has what is kept
   pub only_kept : (other : Net → Wave) → Runs (setting circuit) firsts seconds other
@@ -99,7 +99,7 @@ module _ (circuit : Numbered) (firsts seconds : List Level) (numbering : IsNumbe
       record {
         waves = wanted_same wanted waves so.all so.left.count (λ n is. so.left.same n (later n is))
             ∙ ap (λ (ws : List Wave). wanted_waves wanted ws) (sym named);
-        lasts = so.lasts ∙ ap (λ (ws : List Wave). map last_moment ws) (sym named) ∙ map-fuse other last_moment (nets circuit);
+        lasts = so.lasts ∙ ap (λ (ws : List Wave). map last ws) (sym named) ∙ map-fuse other last (nets circuit);
       }
 
   -- and there is one

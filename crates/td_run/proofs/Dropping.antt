@@ -1,5 +1,5 @@
 -- What is left of a run's waves as its gates are evaluated in order.
-use Rattle.std.proofs.Common.{◌≡◌, ◌≢◌, ℕ, zero, suc, ◌+◌, ◌*◌, ◌<◌, ◌≤◌, List, [], ◌∷◌, ◌++◌, length, map, get_or, set, refl, arith, sym, ap, ◌∙◌, subst, take, drop, inl, inr, append-nil, Bool, Some, get_or-set_other, get_or-set_same}
+use Rattle.std.proofs.Common.{◌≡◌, ◌≢◌, ℕ, zero, suc, ◌+◌, ◌*◌, ◌<◌, ◌≤◌, List, [], ◌∷◌, ◌++◌, length, map, get_or, set, refl, arith, sym, ap, ◌∙◌, subst, take, drop, inl, inr, append-nil, Bool, Option, Some, get_or-set_other, get_or-set_same}
 use Rattle.std.specs.Prelude.{slice_get}
 use Rattle.std.specs.List.{All}
 use Rattle.std.proofs.lemmas.Bool.{cases_eq}
@@ -8,7 +8,7 @@ use Rattle.std.proofs.lemmas.List.Elements.{All-nil, All-cons, All-head, All-tai
 use Rattle.td_gates.specs.declared.primitives.Level.{Level}
 use Rattle.td_gates.specs.declared.primitives.Level.TheVariants.{X}
 use Rattle.td_gates.specs.declared.timing.Change.{Change}
-use Rattle.td_gates.specs.Wave.{Wave, IsWave}
+use Rattle.td_gates.specs.Wave.{Wave, IsWave, last}
 use Rattle.td_gates.specs.Schedule.{Obeys}
 use Rattle.td_gates.proofs.Places.{some-same, slice_get-some}
 use Rattle.td_circuit.specs.Settings.{AreMoments}
@@ -16,7 +16,7 @@ use Rattle.td_circuit.specs.Numbering.{NumberedGate, Numbered, nets, first_outpu
 use Rattle.td_circuit.proofs.Nets.{length-nets}
 use Rattle.td_run.specs.Waves.{AreWithin, constant, waves_of}
 use Rattle.td_run.specs.Runs.{first_waves, IsRunUpTo}
-use Rattle.td_run.specs.Keeping.{last_moment, AreEnds, AreEndsUpTo, HasLeft, IsLeftUpTo}
+use Rattle.td_run.specs.Keeping.{AreEnds, AreEndsUpTo, HasLeft, IsLeftUpTo}
 use Rattle.td_run.proofs.Gates.{run_start}
 use Rattle.td_run.proofs.Numbered.{length-waves, next_gate}
 
@@ -130,8 +130,8 @@ last_within P (x ∷ xs) wave h = last_within P xs wave (All-tail P x (xs ++ wav
 module _ (circuit : Numbered) (firsts seconds : List Level) (numbering : IsNumbering circuit) (fit : AreMoments circuit.netlist circuit.moments)
     (first_fits : length firsts ≡ length circuit.netlist.inputs) (second_fits : length seconds ≡ length circuit.netlist.inputs)
     (ends : List ℕ) (are : AreEnds circuit ends) where
-  pub left_start : (waves : List Wave) (moments : List ℕ) → waves ≡ first_waves firsts seconds circuit.moments
-      → moments ≡ map last_moment waves → IsLeftUpTo circuit firsts seconds ends 0 waves moments
+  pub left_start : (waves : List Wave) (moments : List (Option ℕ)) → waves ≡ first_waves firsts seconds circuit.moments
+      → moments ≡ map last waves → IsLeftUpTo circuit firsts seconds ends 0 waves moments
   left_start waves moments is lasts = record {
     all = waves;
     outs = [];
@@ -140,31 +140,31 @@ module _ (circuit : Numbered) (firsts seconds : List Level) (numbering : IsNumbe
     lasts = lasts;
   }
 
-  pub left_count : (place : ℕ) (waves : List Wave) (moments : List ℕ) → IsLeftUpTo circuit firsts seconds ends place waves moments
+  pub left_count : (place : ℕ) (waves : List Wave) (moments : List (Option ℕ)) → IsLeftUpTo circuit firsts seconds ends place waves moments
       → length waves ≡ first_output circuit + place
   left_count place waves moments so = so.left.count
       ∙ length-waves circuit firsts seconds numbering fit first_fits second_fits place so.all so.outs so.run
 
-  pub left_within : (place : ℕ) (waves : List Wave) (moments : List ℕ) → IsLeftUpTo circuit firsts seconds ends place waves moments
+  pub left_within : (place : ℕ) (waves : List Wave) (moments : List (Option ℕ)) → IsLeftUpTo circuit firsts seconds ends place waves moments
       → All (λ wave. AreWithin ((place + 1) * 1000000000) wave.changes) waves
   left_within place waves moments so = so.left.within ((place + 1) * 1000000000) so.run.within
 
-  pub left_room : (place : ℕ) (waves : List Wave) (moments : List ℕ) → IsLeftUpTo circuit firsts seconds ends place waves moments
+  pub left_room : (place : ℕ) (waves : List Wave) (moments : List (Option ℕ)) → IsLeftUpTo circuit firsts seconds ends place waves moments
       → place < length circuit.gates → length waves + 1 ≤ length ends
   left_room place waves moments so inside =
       let long = left_count place waves moments so in
       omega (arith, long, inside, are.count, length-nets circuit numbering)
 
-  pub left_end : (place : ℕ) (waves : List Wave) (moments : List ℕ) → place ≡ length circuit.gates
+  pub left_end : (place : ℕ) (waves : List Wave) (moments : List (Option ℕ)) → place ≡ length circuit.gates
       → IsLeftUpTo circuit firsts seconds ends place waves moments → IsLeftUpTo circuit firsts seconds ends (length circuit.gates) waves moments
   left_end place waves moments is so = subst (λ (n : ℕ). IsLeftUpTo circuit firsts seconds ends n waves moments) is so
 
-  pub left_step : (place next : ℕ) (waves : List Wave) (moments : List ℕ) (gate : NumberedGate) (wave : Wave) (some rest : List Wave)
+  pub left_step : (place next : ℕ) (waves : List Wave) (moments : List (Option ℕ)) (gate : NumberedGate) (wave : Wave) (some rest : List Wave)
       → next ≡ suc place → IsLeftUpTo circuit firsts seconds ends place waves moments → slice_get circuit.gates place ≡ Some gate
       → Obeys gate.kind gate.delay (waves_of waves gate.inputs) wave → IsWave wave
       → AreWithin ((place + 1) * 1000000000 + 1000000000) wave.changes
       → HasLeft ends next (waves ++ wave ∷ []) some → HasLeft ends next some rest
-      → IsLeftUpTo circuit firsts seconds ends next rest (moments ++ last_moment wave ∷ [])
+      → IsLeftUpTo circuit firsts seconds ends next rest (moments ++ last wave ∷ [])
   left_step place next waves moments gate wave some rest after so at obeys rising within first_drop second_drop =
       let read = same_read waves so.all gate.inputs (λ k d h. so.left.same (get_or gate.inputs k d) (are.read place gate at k d h)) in
       let dropped = HasLeft-then ends next (waves ++ wave ∷ []) some rest first_drop second_drop in
@@ -183,5 +183,5 @@ module _ (circuit : Numbered) (firsts seconds : List Level) (numbering : IsNumbe
               same = λ net h. both_pushed waves so.all wave net so.left.count (so.left.same net (omega (arith, h, after)));
             })
             dropped;
-        lasts = ap (λ ms. ms ++ last_moment wave ∷ []) so.lasts ∙ sym (map-append last_moment so.all (wave ∷ []));
+        lasts = ap (λ ms. ms ++ last wave ∷ []) so.lasts ∙ sym (map-append last so.all (wave ∷ []));
       }

@@ -1,5 +1,5 @@
 -- What is kept of a run: the waves of chosen nets, and of each net the moment of its last change.
-use Rattle.std.specs.Prelude.{◌≡◌, ℕ, ◌+◌, ◌<◌, List, [], ◌∷◌, map, length, Bool, true, false, Option, Some, None, unwrap_or, slice_get, slice_index_or, if◌then◌else◌}
+use Rattle.std.specs.Prelude.{◌≡◌, ℕ, ◌+◌, ◌<◌, List, [], ◌∷◌, map, length, Bool, true, false, Option, Some, None, slice_get, slice_index_or, if◌then◌else◌}
 use Rattle.std.specs.List.{All}
 use Rattle.td_gates.specs.declared.primitives.Level.{Level}
 use Rattle.td_gates.specs.declared.primitives.Level.TheVariants.{X}
@@ -14,11 +14,7 @@ use Rattle.td_run.specs.Runs.{IsRunUpTo}
 -- by the nets' numbers: the waves of the wanted nets, and the moments of all nets' last changes
 pub record KeptWaves : Type 0 where
   pub waves : List (Option Wave)
-  pub lasts : List ℕ
-
--- the moment of a wave's last change, 0 where it has none
-abbrev pub last_moment : Wave → ℕ
-last_moment wave = unwrap_or (last wave) 0
+  pub lasts : List (Option ℕ)
 
 -- the waves that are wanted
 abbrev pub wanted_waves : List Bool → List Wave → List (Option Wave)
@@ -29,7 +25,7 @@ wanted_waves wanted waves = []
 -- of the run of these nets the wanted ones are kept, and the moment of each net's last change
 pub record IsKeptOf (nets : List Net) (run : Net → Wave) (wanted : List Bool) (kept : KeptWaves) : Type 0 where
   pub waves : kept.waves ≡ wanted_waves wanted (map run nets)
-  pub lasts : kept.lasts ≡ map (λ net. last_moment (run net)) nets
+  pub lasts : kept.lasts ≡ map (λ net. last (run net)) nets
 
 -- ---- internal
 
@@ -67,9 +63,9 @@ pub record HasLeft (ends : List ℕ) (evaluated : ℕ) (old new : List Wave) : T
 
 -- what is left of the waves of the nets up to the output of the gate at a place, and the moments of
 -- all their last changes
-pub record IsLeftUpTo (circuit : Numbered) (firsts seconds : List Level) (ends : List ℕ) (place : ℕ) (waves : List Wave) (moments : List ℕ) : Type 0 where
+pub record IsLeftUpTo (circuit : Numbered) (firsts seconds : List Level) (ends : List ℕ) (place : ℕ) (waves : List Wave) (moments : List (Option ℕ)) : Type 0 where
   pub all : List Wave
   pub outs : List Wave
   pub run : IsRunUpTo circuit firsts seconds place all outs
   pub left : HasLeft ends place all waves
-  pub lasts : moments ≡ map last_moment all
+  pub lasts : moments ≡ map last all

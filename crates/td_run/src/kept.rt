@@ -1,15 +1,15 @@
 //! A run that keeps the waves of chosen nets only, and of each net the moment of its last change.
 
 ghost use Rattle.std.specs.Prelude.{◌≡◌, ℕ, ◌<◌, ◌≤◌, length, map, slice_get, slice_index_or};
-ghost use Rattle.std.specs.Prelude.{Some, IfOk};
+ghost use Rattle.std.specs.Prelude.{true, Some, IfOk, IfSome, IfNone};
 ghost use Rattle.std.specs.List.{All};
-ghost use Rattle.td_gates.specs.Wave.{Wave as WaveModel};
+ghost use Rattle.td_gates.specs.Wave.{Wave as WaveModel, last};
 ghost use Rattle.td_nets.specs.Netlist.{Net};
 ghost use Rattle.td_circuit.specs.Numbering.{nets, setting, IsNumbering};
 ghost use Rattle.td_circuit.specs.Run.{Runs};
 ghost use Rattle.td_circuit.specs.Settings.{AreMoments};
 ghost use Rattle.td_run.specs.Waves.{AreWithin};
-ghost use Rattle.td_run.specs.Keeping.{last_moment, first_end, IsKeptOf, AreEnds, AreLater, HasLeft, IsLeftUpTo};
+ghost use Rattle.td_run.specs.Keeping.{first_end, IsKeptOf, AreEnds, AreLater, HasLeft, IsLeftUpTo};
 
 use crate::run::{first_waves, next_wave};
 use crate::wave::Wave;
@@ -17,6 +17,7 @@ use std::alloc::{AllocError, Global};
 use std::marker::Model;
 use td_circuit::Circuit;
 use td_gates::Level;
+use td_stop::Stop;
 
 /// Puts off the ends of these nets until so many gates are evaluated.
 fn put_off(ends: &mut [usize], nets: &[u32], evaluated: usize)
@@ -91,20 +92,13 @@ fn drop_waves(alloc: Global, waves: &mut [Wave], ends: &[usize], nets: &[u32], e
     }
 }
 
-/// The moment of a wave's last change, 0 where it has none.
-fn last_moment(wave: &Wave) -> u64
-    ensures { result ≡ last_moment wave.now }
-{
-    wave.last().unwrap_or(0)
-}
-
 /// The moments of the last changes of waves.
-fn last_moments(alloc: Global, waves: &[Wave]) -> Result<Vec<u64>, AllocError>
-    ensures { IfOk result (λ lasts. lasts.items ≡ map last_moment waves.now) }
+fn last_moments(alloc: Global, waves: &[Wave]) -> Result<Vec<Option<u64>>, AllocError>
+    ensures { IfOk result (λ lasts. lasts.items ≡ map last waves.now) }
 {
     let mut lasts = Vec::new(alloc);
     for wave in waves {
-        lasts.push(last_moment(wave))?;
+        lasts.push(wave.last())?;
     }
     Ok(lasts)
 }
@@ -113,22 +107,25 @@ fn last_moments(alloc: Global, waves: &[Wave]) -> Result<Vec<u64>, AllocError>
 #[derive(Drop)]
 struct Left {
     waves: Vec<Wave>,
-    lasts: Vec<u64>,
+    lasts: Vec<Option<u64>>,
 }
 
-/// Evaluates the gates in order, and drops each wave after the last gate that needs it.
+/// Evaluates the gates in order, and drops each wave after the last gate that needs it. There is
+/// nothing where the stop is set meanwhile.
 fn evaluate(
     alloc: Global,
     circuit: &Circuit,
     first: &[Level],
     second: &[Level],
     ends: &[usize],
-) -> Result<Left, AllocError>
+    stop: &Stop,
+) -> Result<Option<Left>, AllocError>
     requires first_fits { length first.now ≡ length circuit.now.netlist.inputs }
     requires second_fits { length second.now ≡ length circuit.now.netlist.inputs }
     requires ends { AreEnds circuit.now ends.now }
-    ensures left { IfOk result (λ left. IsLeftUpTo circuit.now first.now second.now ends.now
-        (length circuit.now.gates) left.waves.items left.lasts.items) }
+    ensures left { IfOk result (λ left. IfSome left (λ left. IsLeftUpTo circuit.now first.now
+        second.now ends.now (length circuit.now.gates) left.waves.items left.lasts.items)) }
+    ensures stopped { IfOk result (λ left. IfNone left (stop.now.can_be_set ≡ true)) }
     ensures numbering { IsNumbering circuit.now }
     ensures fit { AreMoments circuit.now.netlist circuit.now.moments }
 {
@@ -137,14 +134,17 @@ fn evaluate(
     let mut waves = first_waves(alloc, first, second, moments)?;
     let mut lasts = last_moments(alloc, &waves)?;
     for (place, gate) in gates.iter().enumerate() {
+        if stop.is_set() {
+            return Ok(None);
+        }
         let wave = next_wave(alloc, circuit, place, &waves)?;
-        lasts.push(last_moment(&wave))?;
+        lasts.push(wave.last())?;
         let net = waves.len();
         waves.push(wave)?;
         drop_waves(alloc, &mut waves, ends, &gate.inputs, place + 1);
         drop_wave(alloc, &mut waves, ends, net, place + 1);
     }
-    Ok(Left { waves, lasts })
+    Ok(Some(Left { waves, lasts }))
 }
 
 /// What is kept of a run: the waves of the wanted nets, and the moment of each net's last change.
@@ -152,7 +152,7 @@ fn evaluate(
 pub struct Kept {
     waves: Vec<Wave>,
     wanted: Vec<bool>,
-    lasts: Vec<u64>,
+    lasts: Vec<Option<u64>>,
 }
 
 impl Model for Kept {
@@ -184,8 +184,8 @@ impl Kept {
         }
     }
 
-    /// The moment of the last change of the net with this number, 0 where it has none.
-    pub fn last(&self, net: u32) -> u64
+    /// The moment of the last change of the net with this number.
+    pub fn last(&self, net: u32) -> Option<u64>
         requires { net < length self.now.lasts }
         ensures { slice_get self.now.lasts net ≡ Some result }
     {
@@ -195,7 +195,8 @@ impl Kept {
 
 /// The run of a circuit that is settled under the first vector, and whose inputs take their levels
 /// of the second at their moments: the waves of the nets that are wanted, by number, and the moment
-/// of each net's last change.
+/// of each net's last change. There is nothing where the stop is set meanwhile: it is looked at
+/// before each gate.
 ///
 /// The wave of another net is dropped after the last gate that reads it. So the memory is that of
 /// the wanted waves, and of those that the gates still to come read. The error is out of memory.
@@ -205,32 +206,38 @@ pub fn kept_waves(
     first: &[Level],
     second: &[Level],
     wanted: &[bool],
-) -> Result<Kept, AllocError>
+    stop: &Stop,
+) -> Result<Option<Kept>, AllocError>
     requires first_fits { length first.now ≡ length circuit.now.netlist.inputs }
     requires second_fits { length second.now ≡ length circuit.now.netlist.inputs }
     requires wanted { length wanted.now ≡ length (nets circuit.now) }
 
     // There is a run of which this is kept, and it is what each run would leave.
-    ensures runs { IfOk result (λ kept. (waves : Net → WaveModel)
+    ensures runs { IfOk result (λ kept. IfSome kept (λ kept. (waves : Net → WaveModel)
         × Runs (setting circuit.now) first.now second.now waves
-        × IsKeptOf (nets circuit.now) waves wanted.now kept) }
-    ensures only { IfOk result (λ kept. (other : Net → WaveModel)
+        × IsKeptOf (nets circuit.now) waves wanted.now kept)) }
+    ensures only { IfOk result (λ kept. IfSome kept (λ kept. (other : Net → WaveModel)
         → Runs (setting circuit.now) first.now second.now other
-        → IsKeptOf (nets circuit.now) other wanted.now kept) }
+        → IsKeptOf (nets circuit.now) other wanted.now kept)) }
 
     // No change is later than any run's may be.
-    ensures small { IfOk result (λ kept. (net : ℕ) (wave : WaveModel)
-        → slice_get kept.waves net ≡ Some (Some wave) → AreWithin 200001000000000 wave.changes) }
-    ensures count { IfOk result (λ kept. length kept.waves ≡ length (nets circuit.now)) }
-    ensures lasts_count { IfOk result (λ kept. length kept.lasts ≡ length (nets circuit.now)) }
+    ensures small { IfOk result (λ kept. IfSome kept (λ kept. (net : ℕ) (wave : WaveModel)
+        → slice_get kept.waves net ≡ Some (Some wave) → AreWithin 200001000000000 wave.changes)) }
+    ensures count { IfOk result (λ kept. IfSome kept (λ kept.
+        length kept.waves ≡ length (nets circuit.now))) }
+    ensures lasts_count { IfOk result (λ kept. IfSome kept (λ kept.
+        length kept.lasts ≡ length (nets circuit.now))) }
+    ensures stopped { IfOk result (λ kept. IfNone kept (stop.now.can_be_set ≡ true)) }
 {
     let ends = ends_of(alloc, circuit, wanted)?;
-    let left = evaluate(alloc, circuit, first, second, &ends)?;
+    let Some(left) = evaluate(alloc, circuit, first, second, &ends, stop)? else {
+        return Ok(None);
+    };
     let mut own = Vec::new(alloc);
     own.extend_from_slice(wanted)?;
-    Ok(Kept {
+    Ok(Some(Kept {
         waves: left.waves,
         wanted: own,
         lasts: left.lasts,
-    })
+    }))
 }

@@ -181,10 +181,12 @@ impl<'a> Search<'a> {
     /// Asks a question, with a limit of work if there is one. The error is out of memory.
     pub(crate) fn ask(&mut self, asked: Asked, limit: Option<u64>) -> Result<Reply, AllocError> {
         self.counts.questions = self.counts.questions.saturating_add(1);
+        self.stop.gauge.ask(asked.place.saturating_sub(1));
         self.look_at(asked.net)?;
         let assumptions = self.assume(asked)?;
         let start = self.spent();
         for _ in 0..u64::MAX {
+            self.tell_work();
             let used = self.spent().saturating_sub(start);
             let left = match limit {
                 Some(limit) => {

@@ -160,6 +160,8 @@ pub struct Search<'a> {
     pub(crate) counts: Counts,
     // After how many steps it pauses.
     pub(crate) pause: u64,
+    // How much of its work it has told who waits for it.
+    pub(crate) told: u64,
     // Whether a run had too many changes to be followed.
     pub(crate) is_lost: bool,
 }
@@ -238,6 +240,7 @@ impl<'a> Search<'a> {
                 simulated: 0,
             },
             pause: u64::MAX,
+            told: 0,
             is_lost: false,
         })
     }
@@ -304,6 +307,13 @@ impl<'a> Search<'a> {
     /// How much memory it takes, in words of 4 bytes, about.
     pub fn words(&self) -> u64 {
         self.solver.words().saturating_add(self.record.words())
+    }
+
+    // Tells who waits for it how much work was done since it was told last.
+    pub(crate) fn tell_work(&mut self) {
+        let spent = self.spent();
+        self.stop.gauge.add(spent.saturating_sub(self.told));
+        self.told = spent;
     }
 
     /// Whether the search is to end or to pause.

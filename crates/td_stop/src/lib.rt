@@ -2,10 +2,12 @@
 //! because somebody asks for it.
 #![tactic(auto)]
 
+mod gauge;
 mod stop;
 #[cfg(test)]
 mod tests;
 mod timer;
 
+pub use gauge::Gauge;
 pub use stop::Stop;
 pub use timer::{Signal, Timer};

@@ -2,6 +2,7 @@
 
 ghost use Rattle.std.specs.Prelude.{◌≡◌, true, false};
 
+use crate::gauge::Gauge;
 use std::sync::atomic::{AtomicBool, Ordering};
 
 /// Whether those who work on a search are to end it. Threads share it by `&`. Nothing is promised
@@ -11,6 +12,8 @@ use std::sync::atomic::{AtomicBool, Ordering};
 pub struct Stop {
     flag: AtomicBool,
     asked: AtomicBool,
+    /// What a search by spans tells who waits for it.
+    pub gauge: Gauge,
     /// Whether it is ever set.
     pub can_be_set: bool,
 }
@@ -23,6 +26,7 @@ impl Stop {
         Stop {
             flag: AtomicBool::new(false),
             asked: AtomicBool::new(false),
+            gauge: Gauge::new(),
             can_be_set: true,
         }
     }
@@ -34,6 +38,7 @@ impl Stop {
         Stop {
             flag: AtomicBool::new(false),
             asked: AtomicBool::new(false),
+            gauge: Gauge::new(),
             can_be_set: false,
         }
     }

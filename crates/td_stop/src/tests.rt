@@ -1,6 +1,6 @@
 ghost use Rattle.std.specs.Prelude.{◌≡◌};
 
-use crate::{Signal, Stop, Timer};
+use crate::{Gauge, Signal, Stop, Timer};
 use std::sync::atomic::{AtomicBool, Ordering};
 use std::test::Fail;
 use std::time::{Clock, Duration};
@@ -20,20 +20,12 @@ fn set_where_it_can_be(rt: HostRuntime) -> Result<(), Fail> {
 
 /// A signal that is given once a flag is set.
 #[derive(Drop)]
-struct Flag {
-    flag: AtomicBool,
+struct Flag<'a> {
+    flag: &'a AtomicBool,
 }
 
-impl Flag {
-    fn of(is_set: bool) -> Flag {
-        Flag {
-            flag: AtomicBool::new(is_set),
-        }
-    }
-}
-
-impl Signal for Flag {
-    fn is_given(&self) -> bool {
+impl<'a> Signal for Flag<'a> {
+    fn is_given(&mut self) -> bool {
         self.flag.load(Ordering::SeqCst)
     }
 }
@@ -51,9 +43,26 @@ fn asked_where_it_can_be(rt: HostRuntime) -> Result<(), Fail> {
 }
 
 #[test]
+fn gauge_adds_up(rt: HostRuntime) -> Result<(), Fail> {
+    let gauge = Gauge::new();
+    gauge.add(3);
+    gauge.ask(7);
+    gauge.add(4);
+    assert!(rt; gauge.units() == 7 && gauge.moment() == 7);
+    Ok(())
+}
+
+#[test]
 fn timer_sets_a_stop(rt: HostRuntime) -> Result<(), Fail> {
     let stop = Stop::new();
-    Timer::new().run(&rt, Some(0), &Flag::of(false), &stop);
+    Timer::new().run(
+        &rt,
+        Some(0),
+        &mut Flag {
+            flag: &AtomicBool::new(false),
+        },
+        &stop,
+    );
     assert!(rt; stop.is_set() && !stop.was_asked());
     Ok(())
 }
@@ -61,7 +70,14 @@ fn timer_sets_a_stop(rt: HostRuntime) -> Result<(), Fail> {
 #[test]
 fn signal_sets_a_stop(rt: HostRuntime) -> Result<(), Fail> {
     let stop = Stop::new();
-    Timer::new().run(&rt, None, &Flag::of(true), &stop);
+    Timer::new().run(
+        &rt,
+        None,
+        &mut Flag {
+            flag: &AtomicBool::new(true),
+        },
+        &stop,
+    );
     assert!(rt; stop.is_set() && stop.was_asked());
     Ok(())
 }
@@ -69,12 +85,12 @@ fn signal_sets_a_stop(rt: HostRuntime) -> Result<(), Fail> {
 #[test]
 fn signal_is_seen_later(rt: HostRuntime) -> Result<(), Fail> {
     let stop = Stop::new();
-    let signal = Flag::of(false);
+    let flag = AtomicBool::new(false);
     let timer = Timer::new();
     thread::join(
         &rt,
-        || timer.run(&rt, Some(1_000_000), &signal, &stop),
-        || signal.flag.store(true, Ordering::SeqCst),
+        || timer.run(&rt, Some(1_000_000), &mut Flag { flag: &flag }, &stop),
+        || flag.store(true, Ordering::SeqCst),
     );
     assert!(rt; stop.is_set() && stop.was_asked());
     Ok(())
@@ -86,7 +102,14 @@ fn timer_that_was_ended_sets_none(rt: HostRuntime) -> Result<(), Fail> {
     let timer = Timer::new();
     thread::join(
         &rt,
-        || timer.run(&rt, Some(1_000_000), &Flag::of(false), &stop),
+        || timer.run(
+            &rt,
+            Some(1_000_000),
+            &mut Flag {
+                flag: &AtomicBool::new(false),
+            },
+            &stop,
+        ),
         || timer.end(&rt),
     );
     assert!(rt; !stop.is_set());

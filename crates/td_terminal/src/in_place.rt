@@ -11,11 +11,14 @@ const SEARCH: &[u8] = b"nodes ";
 
 const TABLE: &[u8] = b"rows ";
 
+/// How a row of a table begins, which takes the place of a line of progress, and stays.
+const ROW: &[u8] = b"each ";
+
 /// Goes to the line above and clears it (ECMA-48: CUU and EL).
 const UP: &[u8] = b"\x1b[A\x1b[2K";
 
-/// Hands all on to a sink. At a terminal a line of progress takes the place of the one before it,
-/// where nothing came between the two.
+/// Hands all on to a sink. At a terminal a line of progress, or a row of a table, takes the place of
+/// the line of progress before it, where nothing came between the two.
 #[derive(Drop)]
 pub struct InPlace<S> {
     sink: S,
@@ -47,8 +50,8 @@ impl<S: Sink> InPlace<S> {
         &self.sink
     }
 
-    // Writes some of the bytes. Where they begin a line of progress after another one, they take
-    // that one's place.
+    // Writes some of the bytes. Where they begin a line of progress or a row after a line of
+    // progress, they take that one's place.
     fn write_in_place(&mut self, bytes: &[u8]) -> Result<usize, DeviceFault>
         requires { self.old.is_in_place ≡ true }
         ensures place { self.new.is_in_place ≡ true }
@@ -72,7 +75,7 @@ impl<S: Sink> InPlace<S> {
         if self.is_ended {
             let was_progress = self.is_progress;
             self.is_progress = bytes.starts_with(SEARCH) || bytes.starts_with(TABLE);
-            if was_progress && self.is_progress {
+            if was_progress && (self.is_progress || bytes.starts_with(ROW)) {
                 self.sink.write_all(UP)?;
             }
         }

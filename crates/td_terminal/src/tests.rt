@@ -13,7 +13,7 @@ fn written(rt: &HostRuntime, is_in_place: bool, texts: &[&[u8]]) -> Result<Vec<u
     Ok(Vec::from_slice(rt.alloc(), sink.sink().bytes())?)
 }
 
-/// Two lines of progress are one at a terminal; other lines stay.
+/// Two lines of progress are one at a terminal, and a row takes their place; other lines stay.
 #[test]
 fn progress_in_place(rt: HostRuntime) -> Result<(), Fail> {
     let texts: [&[u8]; 4] = [b"nodes 1\n", b"nodes 2\n", b"tdelay: no\n", b"nodes 3\n"];
@@ -22,11 +22,11 @@ fn progress_in_place(rt: HostRuntime) -> Result<(), Fail> {
         shown.as_slice(),
         b"nodes 1\n\x1b[A\x1b[2Knodes 2\ntdelay: no\nnodes 3\n".as_slice()
     );
-    let rows: [&[u8]; 2] = [b"rows 0\n", b"rows 1\n"];
+    let rows: [&[u8]; 4] = [b"rows 0\n", b"rows 1\n", b"each y\n", b"rows 2\n"];
     let shown = written(&rt, true, &rows)?;
     assert_eq!(rt;
         shown.as_slice(),
-        b"rows 0\n\x1b[A\x1b[2Krows 1\n".as_slice()
+        b"rows 0\n\x1b[A\x1b[2Krows 1\n\x1b[A\x1b[2Keach y\nrows 2\n".as_slice()
     );
     let plain = written(&rt, false, &texts)?;
     assert_eq!(rt;

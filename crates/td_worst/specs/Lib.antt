@@ -4,3 +4,4 @@ pub mod OpenAnswer
 pub mod Kept
 pub mod Known
 pub mod Supports
+pub mod Causes

@@ -12,7 +12,7 @@ ghost use Rattle.td_worst.specs.Kept.{IsKeptAnswer, IsKeptWithinEdges, KeptTimeN
 
 use crate::kept_answer::{KeptAnswer, KeptFound, Known};
 use crate::question::KeptQuestion;
-use crate::refuting::cause_of;
+use crate::refuting::{cause_of, words_of};
 use std::alloc::{AllocError, Global};
 use std::thread::Threads;
 use td_circuit::Circuit;
@@ -60,7 +60,11 @@ pub fn worst_kept<R: Threads + Sync>(
         return Err(SearchFault::NoPair);
     }
     let high = free_bound(alloc, circuit, pins)?;
-    let Limits { effort, stop } = limits;
+    let Limits {
+        effort,
+        stop,
+        memory,
+    } = limits;
     if effort.budget == 0 {
         let cause = Cause::Budget;
         let answer = KeptAnswer::Open { high, cause };
@@ -69,6 +73,7 @@ pub fn worst_kept<R: Threads + Sync>(
     let mut further = Effort::until(stop);
     further.work = effort.budget;
     further.workers = effort.workers;
+    further.words = words_of(memory);
     further.required = required;
     match refute_keeping(rt, alloc, circuit, admit, keep, further) {
         Ok(answered) => {

@@ -1,6 +1,6 @@
 //! What a refutation makes of an answer.
 
-ghost use Rattle.std.specs.Prelude.{◌≡◌, Bool, true, ◌<◌, ◌≤◌, ◌^◌, ℕ, None as Nothing, IfOk, IfSome};
+ghost use Rattle.std.specs.Prelude.{◌≡◌, Bool, true, false, ◌<◌, ◌≤◌, ◌^◌, ◌/◌, ℕ, None as Nothing, IfOk, IfSome};
 ghost use Rattle.td_circuit.specs.Numbering.{setting};
 ghost use Rattle.td_lead.specs.Timed.{IsTimed};
 ghost use Rattle.td_refute.specs.Answers.{IsShown};
@@ -9,6 +9,7 @@ ghost use Rattle.td_search.specs.declared.answers.Cause.TheVariants as cause;
 ghost use Rattle.td_search.specs.Answers.{TimeNeedsStop, low_of};
 ghost use Rattle.td_search.specs.Problems.{Problem as Asked, problem_of};
 ghost use Rattle.td_search.specs.Written.{CanBeWritten};
+ghost use Rattle.td_worst.specs.Causes.{cause_in};
 ghost use Rattle.td_worst.specs.Leaves.{IsSpellable};
 ghost use Rattle.td_worst.specs.Methods.{high_of, IsNarrower, IsSoundAnswer};
 ghost use Rattle.td_worst.specs.OpenAnswer.{IsOpenAnswer};
@@ -22,17 +23,30 @@ use td_refute::{Effort, Ending, Refuted, refute};
 use td_search::{Answer, Cause, Problem};
 use td_stop::Stop;
 
-/// Why a search ends that shows no more: the time where the stop is set, the memory that it would
-/// need, else the budget, also where there is nothing more to try before that is used up.
+// How many bytes a search takes for each word of 4 bytes that it counts: its lines are spelled once
+// more where they show a bound.
+const BYTES_OF_A_WORD: u64 = 12;
+
+/// How many words a search by spans may count that is to take no more than so many bytes.
+pub(crate) fn words_of(memory: u64) -> u64
+    ensures { result ≡ memory / 12 }
+{
+    memory / BYTES_OF_A_WORD
+}
+
+/// Why a search ends that shows no more: the time where the stop is set; the memory that it would
+/// need, also where all is known and lines that show it find no room; else the budget, also where
+/// there is nothing more to try before that is used up.
 pub(crate) fn cause_of(ending: Ending, stop: &Stop) -> Cause
-    ensures { result ≡ cause.Time → stop.now.can_be_set ≡ true }
+    ensures time { result ≡ cause.Time → stop.now.can_be_set ≡ true }
+    ensures unstopped { stop.now.can_be_set ≡ false → result ≡ cause_in ending }
 {
     if stop.is_set() {
         return Cause::Time;
     }
     match ending {
-        Ending::Memory => Cause::Memory,
-        _ => Cause::Budget,
+        Ending::Memory | Ending::Closed | Ending::NoPair => Cause::Memory,
+        Ending::Work | Ending::Stop | Ending::Enough | Ending::Lost => Cause::Budget,
     }
 }
 

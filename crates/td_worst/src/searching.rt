@@ -15,6 +15,7 @@ use crate::edge_bound::bounded_by_edges;
 use crate::found::{Found, is_answered};
 use crate::method::Method;
 use crate::question::Question;
+use crate::refuting::words_of;
 use crate::support::{Support, Treed, lower_steps};
 use crate::telling::refuted_told;
 use std::alloc::Global;
@@ -355,22 +356,21 @@ fn with_nodes(limits: Limits<'_>, budget: u64) -> Limits<'_>
     ensures budget { result.effort.budget ≡ budget }
     ensures stop { result.stop.now ≡ limits.entry.stop.now }
 {
-    let Limits { effort, stop } = limits;
     let effort = Effort {
-        workers: effort.workers,
+        workers: limits.effort.workers,
         budget,
     };
-    Limits { effort, stop }
+    Limits { effort, ..limits }
 }
 
 // The effort of as many workers for a refutation, with so much work.
 fn with_work(limits: Limits<'_>, work: u64, required: Option<u64>) -> Refuting<'_>
     ensures stop { result.stop.now ≡ limits.entry.stop.now }
 {
-    let Limits { effort, stop } = limits;
-    let mut further = Refuting::until(stop);
+    let mut further = Refuting::until(limits.stop);
     further.work = work;
-    further.workers = effort.workers;
+    further.workers = limits.effort.workers;
+    further.words = words_of(limits.memory);
     further.required = required;
     further
 }

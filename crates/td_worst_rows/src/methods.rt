@@ -65,10 +65,8 @@ fn answered<R: Threads + Wait + Sync + Abort>(
     budget: u64,
 ) -> Result<Answer, Fail> {
     assert!(rt; budget <= 10_000_000);
-    let limits = Limits {
-        effort: Effort { workers: 1, budget },
-        stop: &Stop::never(),
-    };
+    let never = Stop::never();
+    let limits = Limits::until(Effort { workers: 1, budget }, &never);
     answer_of(rt, alloc, netlist, method, limits)
 }
 

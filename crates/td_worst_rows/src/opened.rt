@@ -50,10 +50,8 @@ fn shows<R: Threads + Wait + Sync + Abort>(
         method,
         required: None,
     };
-    let limits = Limits {
-        effort,
-        stop: &Stop::never(),
-    };
+    let never = Stop::never();
+    let limits = Limits::until(effort, &never);
     match worst(rt, alloc, question, limits, &mut Unwatched) {
         Ok(found) => {
             let of_one_tree = method == Method::Least || method == Method::Lead;

@@ -36,10 +36,8 @@ fn figures<R: Threads + Wait + Sync + Abort>(
         method: Method::Refute,
         required,
     };
-    let limits = Limits {
-        effort: ENOUGH,
-        stop: &Stop::never(),
-    };
+    let never = Stop::never();
+    let limits = Limits::until(ENOUGH, &never);
     match worst(rt, alloc, question, limits, &mut Unwatched) {
         Ok(Found { answer, .. }) => match answer {
             Answer::Exact { time, .. } => Ok((time, time)),
@@ -63,10 +61,8 @@ fn shown<R: Threads + Wait + Sync + Abort>(
         keep: &[],
         required: Some(required),
     };
-    let limits = Limits {
-        effort: ENOUGH,
-        stop: &Stop::never(),
-    };
+    let never = Stop::never();
+    let limits = Limits::until(ENOUGH, &never);
     match worst_kept(rt, alloc, question, limits) {
         Ok(KeptFound { answer, .. }) => match answer {
             KeptAnswer::Between {

@@ -34,7 +34,7 @@ fn answered_until<R: Threads + Wait + Sync + Abort>(
         workers,
         budget: 1_000_000,
     };
-    answer_of(rt, alloc, FALSE_WAY, method, Limits { effort, stop })
+    answer_of(rt, alloc, FALSE_WAY, method, Limits::until(effort, stop))
 }
 
 /// Whether figures are right, and time is why they are open.

@@ -11,7 +11,7 @@ use Rattle.td_certificate.specs.Accepts.{are_fit}
 use Rattle.td_question.specs.Keeping.{count_nets}
 use Rattle.td_answer.specs.Columns.{HasChanges, pairs_of}
 use Rattle.td_answer.specs.Names.{label}
-use Rattle.td_answer.specs.Findings.{IsTrueFound}
+use Rattle.td_answer.specs.Sightings.{IsTrueSighting}
 use Rattle.td_answer.specs.Outlooks.{IsTrueOutlook}
 use Rattle.td_answer.proofs.RowStanding.{says_standing}
 use Rattle.td_answer.proofs.each.row_of.Goals as goal
@@ -82,14 +82,17 @@ returns-clause-row g c = λ output stands.
     let asked = c.in_ok-ask.ensures.asked (name_of c.index-names-place.result) at in
     let same = some-same (name_of c.index-names-place.result) output (sym at ∙ stands) in
     let there = asked ∙ ap (alone (setting c.args.outputs.now.whole)) same in
-    let figure = subst (λ (s : Setting). IsTrueFound s (pairs_of c.args.inquiry) c.in_ok-found.found) there
+    let asks = c.args.inquiry.search.now.shown.vectors in
+    let seen = subst (λ (s : Setting). IsTrueSighting asks s (pairs_of c.args.inquiry) c.in_ok-found.field-0) there
     (rw c.circuit-circuit.ensures at c.in_ok-found.ensures.found) in
+    let figure = seen.0 in
     record {
       named = c.in_ok-output.ensures ∙ ap label same;
       figures = record { figure = figure; bound = (c.requires.outlook output stands).bound };
+      pair = seen.1;
       changes = subst (λ (s : Setting). HasChanges c.args.inquiry.search.now.table s (pairs_of c.args.inquiry) c.in_ok-changes.changes) there
           (rw c.circuit-circuit.ensures at c.in_ok-changes.ensures.changes);
       by_figures = c.requirement_of-required.ensures;
       stands = rw c.requirement_of-required.ensures
-          (says_standing (alone (setting c.args.outputs.now.whole) output) (pairs_of c.args.inquiry) c.args.inquiry.search.now.required c.in_ok-found.found figure);
+          (says_standing (alone (setting c.args.outputs.now.whole) output) (pairs_of c.args.inquiry) c.args.inquiry.search.now.required c.in_ok-found.field-0.found figure);
     }

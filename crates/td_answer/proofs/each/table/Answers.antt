@@ -12,8 +12,12 @@ use Rattle.td_answer.specs.declared.refusal.Refusal.TheVariants as refusal
 use Rattle.td_answer.proofs.EachOne.{refused_each}
 use Rattle.td_answer.proofs.each.table.Goals as goal
 
-pub outlooks-requires : goal.outlooks-requires
-outlooks-requires g c =
+pub sample_of-requires : goal.sample_of-requires
+sample_of-requires g c =
+    asked_held c.args.text.now c.args.reading.now c.args.search.now.question (setting c.in_ok-circuit.field-0.circuit) c.in_ok-circuit.field-0.admit c.in_ok-circuit.ensures.asked
+
+pub outlooks-requires-clause-held : goal.outlooks-requires-clause-held
+outlooks-requires-clause-held g c =
     asked_held c.args.text.now c.args.reading.now c.args.search.now.question (setting c.in_ok-circuit.field-0.circuit) c.in_ok-circuit.field-0.admit c.in_ok-circuit.ensures.asked
 
 pub rows-requires-clause-held : goal.rows-requires-clause-held
@@ -43,6 +47,16 @@ returns-clause-reported g c =
     let problem = problem_by Least c.in_ok-circuit.field-0.circuit c.in_ok-circuit.field-0.admit in
     inr (problem, c.in_ok-circuit.ensures.asked, c.in_ok-rows.ensures.reported problem)
 
+pub returns-clause-heard : goal.returns-clause-heard
+returns-clause-heard g c = (
+  c.in_ok-rows.rows.items,
+  _,
+  c.in_ok-push_rows.ensures.0,
+  c.in_ok-push_rows.ensures.2,
+  c.in_ok-push_rows.ensures.1,
+  c.in_ok-rows.ensures.heard,
+)
+
 pub returns-in_err-rows-clause-reported : goal.returns-in_err-rows-clause-reported
 returns-in_err-rows-clause-reported g c =
     let problem = problem_by Least c.in_ok-circuit.field-0.circuit c.in_ok-circuit.field-0.admit in
@@ -52,3 +66,8 @@ pub returns-in_err-push_rows-clause-reported : goal.returns-in_err-push_rows-cla
 returns-in_err-push_rows-clause-reported g c =
     let problem = problem_by Least c.in_ok-circuit.field-0.circuit c.in_ok-circuit.field-0.admit in
     inr (problem, c.in_ok-circuit.ensures.asked, c.in_ok-rows.ensures.reported problem)
+
+pub returns-in_err-push_rows-clause-refusal : goal.returns-in_err-push_rows-clause-refusal
+returns-in_err-push_rows-clause-refusal g c =
+    let reported = err_from_is_err_and c.from_residual-in_err-push_rows.result c.from_residual-in_err-push_rows.ensures.1 in
+    rw (reported.1, reported.2) tt

@@ -10,8 +10,12 @@ use Rattle.td_answer.specs.declared.refusal.Refusal.TheVariants as refusal
 use Rattle.td_answer.proofs.EachOne.{refused_each}
 use Rattle.td_answer.proofs.hazards.hazards.Goals as goal
 
-pub outlooks-requires : goal.outlooks-requires
-outlooks-requires g c =
+pub sample_of-requires : goal.sample_of-requires
+sample_of-requires g c =
+    asked_held c.args.text.now c.args.reading.now c.args.search.now.question (setting c.in_ok-circuit.field-0.circuit) c.in_ok-circuit.field-0.admit c.in_ok-circuit.ensures.asked
+
+pub outlooks-requires-clause-held : goal.outlooks-requires-clause-held
+outlooks-requires-clause-held g c =
     asked_held c.args.text.now c.args.reading.now c.args.search.now.question (setting c.in_ok-circuit.field-0.circuit) c.in_ok-circuit.field-0.admit c.in_ok-circuit.ensures.asked
 
 pub rows-requires-clause-held : goal.rows-requires-clause-held
@@ -35,3 +39,8 @@ returns-in_err-outlooks-clause-refusal g c =
     let reported = err_from_is_err_and c.from_residual-in_err-outlooks.result c.from_residual-in_err-outlooks.ensures.1 in
     rw (reported.1, reported.2) (refused_each c.args.text.now c.args.reading.now c.args.search.now (setting c.in_ok-circuit.field-0.circuit) c.in_ok-circuit.field-0.admit
     (refusal.Search c.in_err-outlooks.field-0.0) c.in_ok-circuit.ensures.asked c.in_err-outlooks.ensures.fault)
+
+pub returns-in_err-push_rows-clause-refusal : goal.returns-in_err-push_rows-clause-refusal
+returns-in_err-push_rows-clause-refusal g c =
+    let reported = err_from_is_err_and c.from_residual-in_err-push_rows.result c.from_residual-in_err-push_rows.ensures.1 in
+    rw (reported.1, reported.2) tt

@@ -36,11 +36,12 @@ both_of-requires-clause-outlook g c κs lives =
       AllZip-long (λ output. IsTrueOutlook (alone (setting whole) output) c.args.inquiry.admit.now) whole.netlist.outputs c.args.outlooks.now c.requires.outlooks,
       c.loop-place-test.true,
     ) in
-    let nothing : Outlook = record { edges = None; low = None } in
+    let it = c.index-outlooks-place.result in
     subst (λ (now : Numbered). (output : Name) → slice_get now.netlist.outputs c.loop-place.place ≡ Some output
-    → IsTrueOutlook (alone (setting now) output) c.args.inquiry.admit.now (get_or c.args.outlooks.now c.loop-place.place nothing)) (sym c.loop-place.invariant.0)
-    (λ output stands. zip_read (λ output. IsTrueOutlook (alone (setting whole) output) c.args.inquiry.admit.now) whole.netlist.outputs c.args.outlooks.now c.requires.outlooks
-    c.loop-place.place nothing less output stands)
+    → IsTrueOutlook (alone (setting now) output) c.args.inquiry.admit.now it) (sym c.loop-place.invariant.0)
+    (λ output stands. subst (λ (o : Outlook). IsTrueOutlook (alone (setting whole) output) c.args.inquiry.admit.now o) (sym c.index-outlooks-place.is)
+    (zip_read (λ output. IsTrueOutlook (alone (setting whole) output) c.args.inquiry.admit.now) whole.netlist.outputs c.args.outlooks.now c.requires.outlooks
+    c.loop-place.place it less output stands))
 
 pub loop-place-preserved : goal.loop-place-preserved
 loop-place-preserved g c =

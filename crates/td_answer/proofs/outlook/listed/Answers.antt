@@ -20,7 +20,7 @@ outlook_at-outlook-requires-clause-run c =
     let circuit = c.args.circuit.now in
     let within : c.loop-net.net-index < length circuit.outputs = rw c.outputs-net-items.ensures at c.loop-net-test.true in
     let out = output_at circuit c.gates-gates.ensures.numbering c.loop-net.net-index within in
-    rw c.outputs-net-items.ensures (wave_within circuit c.args.admit.now c.args.run.now (get_or circuit.outputs c.loop-net.net-index 0) c.requires.sample out.within)
+    rw c.outputs-net-items.ensures (wave_within circuit c.args.admit.now c.args.sample.now (get_or circuit.outputs c.loop-net.net-index 0) c.requires.sample out.within)
 
 pub loop-net-preserved : goal.loop-net-preserved
 loop-net-preserved c =
@@ -35,7 +35,7 @@ loop-net-preserved c =
     let shown = rw c.outputs-net-items.ensures at c.outlook_at-outlook.ensures in
     let is = true_outlook circuit numbering i out.name number out.at stands c.moments-moments.ensures.fit admit
     (pins_long admit.pins admit.held c.pins-pins.ensures.fit c.requires.held) c.args.signals.now c.requires.all c.requires.front
-    c.args.run.now (sampled circuit admit c.args.run.now c.requires.sample) shown.signal shown.at c.outlook_at-outlook.result shown.edges shown.low in
+    c.args.sample.now (sampled circuit admit c.args.sample.now c.requires.sample) shown.signal shown.at c.outlook_at-outlook.result shown.edges shown.low shown.pair in
     rw c.in_ok-push.ensures.items
     (zip_next (λ output. IsTrueOutlook (alone (setting circuit) output) admit) circuit.netlist.outputs c.loop-net.outlooks.items i out.name c.outlook_at-outlook.result out.at
     c.loop-net.invariant is)

@@ -6,4 +6,4 @@ use Rattle.td_checker.proofs.checking.has_its_time.Goals as goal
 pub returns-clause-reached : goal.returns-clause-reached
 returns-clause-reached c =
     is_asked (IsDelayOfBits (setting c.args.circuit.now) c.args.claim.now.pair.first c.args.claim.now.pair.second)
-    c.in_ok-delay_of.field-0 c.args.claim.now.time c.in_ok-delay_of.ensures.delay c.in_ok-delay_of.ensures.only
+    c.in_ok-delay_until.field-0 c.args.claim.now.time c.in_ok-delay_until.ensures.delay c.in_ok-delay_until.ensures.only

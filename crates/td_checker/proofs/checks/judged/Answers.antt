@@ -10,18 +10,18 @@ returns-in_err-whole-clause-fault c =
     (with_default c.args.reading.now (default_for c.args.reading.now.default c.args.certificate.now.question.terms)) c.in_err-whole.field-0.0
     (rw c.default_for-default.ensures at c.in_err-whole.ensures.fault))
 
-pub returns-clause-verdict : goal.returns-clause-verdict
-returns-clause-verdict c = record {
+pub returns-in-Ok-clause-verdict : goal.returns-in-Ok-clause-verdict
+returns-in-Ok-clause-verdict c = record {
   whole = c.in_ok-whole.whole.circuit.netlist;
   means = rw c.default_for-default.ensures at c.in_ok-whole.ensures.means;
   acyclic = c.in_ok-whole.ensures.acyclic;
   outputs = _;
   asked = c.in_ok-whole.ensures.outputs;
-  is = c.in_ok-verdict_of_whole.ensures;
+  is = c.in-Ok.ensures.verdict;
 }
 
-pub returns-clause-truth : goal.returns-clause-truth
-returns-clause-truth c =
-    tells_truth_of c.args.netlist.now c.args.reading.now c.args.told c.args.certificate.now c.in_ok-verdict_of_whole.field-0 c.in_ok-whole.whole.circuit.netlist _
+pub returns-in-Ok-clause-truth : goal.returns-in-Ok-clause-truth
+returns-in-Ok-clause-truth c =
+    tells_truth_of c.args.netlist.now c.args.reading.now c.args.told c.args.certificate.now c.in-Ok.verdict c.in_ok-whole.whole.circuit.netlist _
     (rw c.default_for-default.ensures at c.in_ok-whole.ensures.means) c.in_ok-whole.ensures.acyclic c.in_ok-whole.ensures.formed c.in_ok-whole.ensures.outputs
-    c.requires.spelled c.in_ok-verdict_of_whole.ensures
+    c.requires.spelled c.in-Ok.ensures.verdict

@@ -8,14 +8,15 @@ returns-in_err-verdict-in-Ok-clause-fault c =
     rw (reported.1, reported.2) (spelled_fault_of c.args.netlist.now c.args.reading.now c.args.certificate.now c.in-Ok.spelled c.in_err-verdict-in-Ok.field-0.0
     c.in-Ok.ensures.found c.in_err-verdict-in-Ok.ensures.fault)
 
-pub returns-in_ok-verdict-in-Ok-clause-reported : goal.returns-in_ok-verdict-in-Ok-clause-reported
-returns-in_ok-verdict-in-Ok-clause-reported c =
-    have_verdict c.args.netlist.now c.args.reading.now c.args.told c.args.certificate.now c.in-Ok.spelled c.in_ok-verdict-in-Ok.verdict c.in-Ok.ensures.found
-    c.in_ok-verdict-in-Ok.ensures.verdict
+pub returns-in-Some-clause-reported : goal.returns-in-Some-clause-reported
+returns-in-Some-clause-reported c =
+    have_verdict c.args.netlist.now c.args.reading.now c.args.told c.args.certificate.now c.in-Ok.spelled c.in-Some.verdict c.in-Ok.ensures.found
+    (rw c.in-Some.is at c.in_ok-verdict-in-Ok.ensures.verdict)
 
-pub returns-in_ok-verdict-in-Ok-clause-truth : goal.returns-in_ok-verdict-in-Ok-clause-truth
-returns-in_ok-verdict-in-Ok-clause-truth c = λ accepted.
-    tells_truth c.args.netlist.now c.args.reading.now c.args.certificate.now c.in-Ok.spelled c.in-Ok.ensures.found.0 (c.in_ok-verdict-in-Ok.ensures.truth accepted)
+pub returns-in-Some-clause-truth : goal.returns-in-Some-clause-truth
+returns-in-Some-clause-truth c = λ accepted.
+    tells_truth c.args.netlist.now c.args.reading.now c.args.certificate.now c.in-Ok.spelled c.in-Ok.ensures.found.0
+    (rw c.in-Some.is at c.in_ok-verdict-in-Ok.ensures.truth accepted)
 
-pub returns-in-Err-clause-fault : goal.returns-in-Err-clause-fault
-returns-in-Err-clause-fault c = c.unread.ensures c.args.certificate.now c.in-Err.ensures.fault
+pub returns-clause-fault : goal.returns-clause-fault
+returns-clause-fault c = c.unread.ensures c.args.certificate.now c.in-Err.ensures.fault

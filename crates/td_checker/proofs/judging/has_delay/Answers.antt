@@ -4,5 +4,5 @@ use Rattle.td_checker.proofs.judging.has_delay.Goals as goal
 
 pub returns-clause-has : goal.returns-clause-has
 returns-clause-has c =
-    reported_delay (setting c.args.circuit.now) c.args.cube.now c.in_ok-pair.pair c.in_ok-delay_of.field-0 c.args.delay
-    c.requires.point c.in_ok-pair.ensures.pair c.in_ok-delay_of.ensures.delay c.in_ok-delay_of.ensures.only
+    reported_delay (setting c.args.circuit.now) c.args.cube.now c.in_ok-pair.pair c.in_ok-delay_until.field-0 c.args.delay
+    c.requires.point c.in_ok-pair.ensures.pair c.in_ok-delay_until.ensures.delay c.in_ok-delay_until.ensures.only

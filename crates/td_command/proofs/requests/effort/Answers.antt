@@ -8,3 +8,6 @@ returns-in_err-budget c = rw c.from_residual-in_err-budget.ensures (λ asked has
 
 pub returns-in_err-seconds : goal.returns-in_err-seconds
 returns-in_err-seconds c = rw c.from_residual-in_err-seconds.ensures (λ asked has. c.in_err-seconds.ensures asked.seconds has.seconds)
+
+pub returns-in_err-memory : goal.returns-in_err-memory
+returns-in_err-memory c = rw c.from_residual-in_err-memory.ensures (λ asked has. c.in_err-memory.ensures asked.memory has.memory)

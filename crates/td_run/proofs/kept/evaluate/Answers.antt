@@ -1,10 +1,10 @@
-use Rattle.std.proofs.Common.{◌≡◌, ◌+◌, ◌++◌, ◌∷◌, ◌∙◌, ℕ, [], List, ap, sym, subst, arith, map, take, drop, length, suc}
+use Rattle.std.proofs.Common.{◌≡◌, ◌+◌, ◌++◌, ◌∷◌, ◌∙◌, ℕ, [], List, ap, sym, subst, arith, map, take, drop, length, suc, Option}
 use Rattle.std.proofs.lemmas.List.{length_push}
-use Rattle.td_gates.specs.Wave.{Wave}
+use Rattle.td_gates.specs.Wave.{Wave, last}
 use Rattle.td_circuit.specs.Views.{gate_of}
 use Rattle.td_circuit.proofs.Nets.{lower-at}
 use Rattle.td_run.specs.Runs.{first_waves}
-use Rattle.td_run.specs.Keeping.{last_moment, HasLeft, IsLeftUpTo}
+use Rattle.td_run.specs.Keeping.{HasLeft, IsLeftUpTo}
 use Rattle.td_run.proofs.Placed.{count_same, gate_at_place}
 use Rattle.td_run.proofs.Dropping.{written, left_start, left_count, left_room, left_end, left_step}
 use Rattle.td_run.proofs.kept.evaluate.Goals as goal
@@ -13,7 +13,7 @@ pub loop-place-init : goal.loop-place-init
 loop-place-init c = left_start c.args.circuit.now c.args.first.now c.args.second.now c.gates-gates.ensures.numbering c.moments-moments.ensures.fit c.requires.first_fits c.requires.second_fits c.args.ends.now c.requires.ends
     c.in_ok-waves.waves.items c.in_ok-lasts.lasts.items
     (c.in_ok-waves.ensures ∙ ap (λ moments. first_waves c.args.first.now c.args.second.now moments) c.moments-moments.ensures.moments)
-    (c.in_ok-lasts.ensures ∙ ap (λ (ws : List Wave). map last_moment ws) c.deref.ensures.value)
+    (c.in_ok-lasts.ensures ∙ ap (λ (ws : List Wave). map last ws) c.deref.ensures.value)
 
 pub next_wave-requires-clause-count : goal.next_wave-requires-clause-count
 next_wave-requires-clause-count c = rw c.deref-in-loop-place.ensures.value (left_count c.args.circuit.now c.args.first.now c.args.second.now c.gates-gates.ensures.numbering c.moments-moments.ensures.fit c.requires.first_fits c.requires.second_fits c.args.ends.now c.requires.ends
@@ -59,8 +59,8 @@ loop-place-preserved c =
     ∙ written c.drop_wave.new.waves c.drop_waves.new.waves c.push-in-loop-place.new.self.len
     (c.drop_wave.ensures.count ∙ ap length again)
     (omega (arith, c.deref_mut.ensures.len, c.drop_waves.ensures.count)) in
-    let told : c.push.new.self.items ≡ c.loop-place.lasts.items ++ last_moment wave ∷ [] =
-    c.in_ok-push.ensures.items ∙ ap (λ (m : ℕ). c.loop-place.lasts.items ++ m ∷ []) c.last_moment.ensures in
+    let told : c.push.new.self.items ≡ c.loop-place.lasts.items ++ last wave ∷ [] =
+    c.in_ok-push.ensures.items ∙ ap (λ (m : Option ℕ). c.loop-place.lasts.items ++ m ∷ []) c.last.ensures in
     let first : HasLeft c.args.ends.now (c.loop-place.place + 1) (c.loop-place.waves.items ++ wave ∷ []) c.drop_waves.new.waves =
     subst (λ (ws : List Wave). HasLeft c.args.ends.now (c.loop-place.place + 1) ws c.drop_waves.new.waves) pushed c.drop_waves.ensures in
     let second : HasLeft c.args.ends.now (c.loop-place.place + 1) c.drop_waves.new.waves c.drop_wave.new.waves =
@@ -71,7 +71,7 @@ loop-place-preserved c =
     (rw c.deref-in-loop-place.ensures.value at (c.in_ok-wave.ensures.obeys (gate_of c.index-gates-place.result) placed))
     c.in_ok-wave.ensures.wave c.in_ok-wave.ensures.within first second in
     subst (λ (ws : List Wave). IsLeftUpTo c.args.circuit.now c.args.first.now c.args.second.now c.args.ends.now (c.loop-place.place + 1) ws c.push.new.self.items) (sym rest)
-    (subst (λ (ms : List ℕ). IsLeftUpTo c.args.circuit.now c.args.first.now c.args.second.now c.args.ends.now (c.loop-place.place + 1) c.drop_wave.new.waves ms) (sym told) now)
+    (subst (λ (ms : List (Option ℕ)). IsLeftUpTo c.args.circuit.now c.args.first.now c.args.second.now c.args.ends.now (c.loop-place.place + 1) c.drop_wave.new.waves ms) (sym told) now)
 
 pub returns-clause-left : goal.returns-clause-left
 returns-clause-left c =

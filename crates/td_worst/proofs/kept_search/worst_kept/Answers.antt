@@ -40,7 +40,7 @@ pub returns-in-Ok-clause-edges : goal.returns-in-Ok-clause-edges
 returns-in-Ok-clause-edges g c = λ bound has. c.shown-answer.ensures.within bound ((rw c.pins-pins.ensures.pins at c.in_ok-high.ensures.edges) bound has)
 
 pub returns-in-Ok-clause-time : goal.returns-in-Ok-clause-time
-returns-in-Ok-clause-time g c = c.shown-answer.ensures.time c.args.limits.stop.now.can_be_set c.cause_of-cause.ensures
+returns-in-Ok-clause-time g c = c.shown-answer.ensures.time c.args.limits.stop.now.can_be_set c.cause_of-cause.ensures.time
 
 pub returns-in-Err-clause-answer : goal.returns-in-Err-clause-answer
 returns-in-Err-clause-answer g c = λ pair delay asked has. (rw c.pins-pins.ensures.pins at c.in_ok-high.ensures.sound) pair delay asked.admitted.pinned has
