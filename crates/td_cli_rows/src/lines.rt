@@ -356,15 +356,16 @@ fn prints_a_search(rt: HostRuntime) -> Result<(), Fail> {
         rt.alloc(),
         &report,
         "exact 5\nbetween 2 5\nbetween none 7\nnone\ncause budget\nfrom 01\nto none\nnodes 9\n\
-each y exact 5 edges 7\neach exact between 2 5 edges none\neach z between none 5 edges 5\n\
-each w none edges 3\neach v exact 5 edges 5 rise 5 fall 2..4 glitch never\n\
+each y exact 5 edges 7 from 01 to none\neach exact between 2 5 edges none\n\
+each z between none 5 edges 5\neach w none edges 3\n\
+each v exact 5 edges 5 from 1 to 0 rise 5 fall 2..4 glitch never\n\
 each u none edges none rise none fall none..4 glitch 0..4\n\
 hazard y 0 can 01 11\nhazard y 1 never\nhazard z 0 none\nhazard z 1 open\n--first 0.\n",
         "{\"proved\":true,\"exact\":5,\"between\":[2,5],\"between\":[null,7],\"none\":true,\"cause\":\"budget\",\"from\":\"01\",\
 \"to\":\"none\",\"nodes\":9,\
-\"each\":[[\"y\",\"exact\",5,\"edges\",7],[\"exact\",\"between\",2,5,\"edges\",null],\
+\"each\":[[\"y\",\"exact\",5,\"edges\",7,\"from\",\"01\",\"to\",\"none\"],[\"exact\",\"between\",2,5,\"edges\",null],\
 [\"z\",\"between\",null,5,\"edges\",5],[\"w\",\"none\",\"edges\",3],\
-[\"v\",\"exact\",5,\"edges\",5,\"rise\",5,\"fall\",[2,4],\"glitch\",null],\
+[\"v\",\"exact\",5,\"edges\",5,\"from\",\"1\",\"to\",\"0\",\"rise\",5,\"fall\",[2,4],\"glitch\",null],\
 [\"u\",\"none\",\"edges\",null,\"rise\",\"none\",\"fall\",[null,4],\"glitch\",[0,4]]],\
 \"hazard\":[[\"y\",\"0\",\"can\",\"01\",\"11\"],[\"y\",\"1\",\"never\"],[\"z\",\"0\",\"none\"],\
 [\"z\",\"1\",\"open\"]],\
