@@ -241,9 +241,9 @@ class Figure:
             if os.path.exists(stale):
                 os.remove(stale)
         done = run([self.tdelay, "worst", gates, "--json", *more, *options, *self.rest], (0, 1, 3))
-        if done.returncode == 1 and not done.stdout:
-            raise Failed(1, done.stderr)
         report = json.loads(done.stdout)
+        if "error" in report:
+            raise Failed(done.returncode, done.stderr)
         with open(f"{out}.json", "w", encoding="utf-8") as file:
             file.write(done.stdout)
         for key in ("exact", "between", "none", "cause", "each", "output"):

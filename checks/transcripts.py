@@ -19,6 +19,7 @@ against docs/report.schema.json, if Python has the module jsonschema. And it is 
 import glob
 import os
 import re
+import shlex
 import sys
 
 from lib import check, places, reports, running, schema
@@ -62,6 +63,10 @@ def try_json(tested, command, ran, folder, environment):
     got = (again.status, again.err, said)
     tested.expect(f"{command} --json", wanted, got, "as JSON")
     if said is not None:
+        asked = reports.asked_in(shlex.split(command)[1:])
+        named = reports.asked_of_json(again.out)
+        if named != asked:
+            tested.fault(f"{command} --json: asked {named!r}, not {asked!r}")
         for fault in schema.faults(again.out):
             tested.fault(f"{command} --json: {fault}")
 

@@ -6,6 +6,18 @@ from collections import namedtuple
 
 # What a program that was compiled without proofs says, and what a proved one says there.
 UNPROVED = {'{"proved":false,': '{"proved":true,', ", compiled without proofs": ""}
+# The first keys of a report in JSON.
+HEAD = ["proved", "command", "file", "question"]
+# The options that say what is asked, by their keys there; those by name; others that have a word.
+NAMED = ("--pin", "--hold-input", "--keep")
+ASKED = {
+    f"--{key.replace('_', '-')}": key
+    for key in "first second hold at keep_file flips required output".split()
+    + "default_rise default_fall".split()
+} | dict.fromkeys(NAMED, "named")
+OTHERS_WITH_WORDS = (
+    "--workers -j --strategy --budget --seconds --memory --stop --cert -o --vcd --net --count"
+).split()
 # The lower and the upper figure of a search.
 Figures = namedtuple("Figures", "low high")
 
@@ -165,15 +177,58 @@ def as_json(report):
 
 
 def lines_of_json(text):
-    """The pairs of a JSON report on one line but for the first, which says whether the program is
-    proved. None where the text is no such report."""
+    """The pairs of a JSON report on one line but for the first ones, which say whether the program
+    is proved and what was asked. None where the text is no such report."""
     try:
         pairs = json.loads(text, object_pairs_hook=list)
     except ValueError:
         return None
     is_line = text.count("\n") == 1 and text.endswith("\n")
-    is_report = isinstance(pairs, list) and pairs[:1] in ([("proved", True)], [("proved", False)])
-    return pairs[1:] if is_line and is_report else None
+    keys = [pair[0] for pair in pairs[:4]] if isinstance(pairs, list) else []
+    return pairs[4:] if is_line and keys == HEAD else None
+
+
+def asked_of_json(text):
+    """The command, the file and the question that a JSON report names."""
+    found = json.loads(text)
+    return tuple(found.get(key) for key in HEAD[1:])
+
+
+def asked_in(words):
+    """The same, as the words of a command line say it, read here by themselves."""
+    values, left, words = {}, [], list(words)
+    while words:
+        word = words.pop(0)
+        option, _, value = word.partition("=")
+        if option not in ASKED:
+            skipped = option in OTHERS_WITH_WORDS and "=" not in word
+            left += [word] * (not word.startswith("-") or word == "-")
+            del words[: int(skipped)]
+            continue
+        value = value if "=" in word else words.pop(0)
+        is_named = option in NAMED or (option == "--at" and "=" in value)
+        key = "named" if is_named else ASKED[option]
+        values.setdefault(key, []).append([option, value] if is_named else value)
+    command, file = left[:2]
+    question = {
+        "default": [int(values.get(f"default_{edge}", ["1"])[-1]) for edge in ("rise", "fall")],
+        "output": values.get("output", []),
+    }
+    if command in ("sim", "path"):
+        question |= {"from": left[2], "to": left[3]}
+    if command == "path" and question["output"]:
+        question |= {"net": question["output"][-1], "output": []}
+    if command == "check":
+        told = {"default": "default_rise" in values or "default_fall" in values, "output": "output" in values}
+        question = {key: value for key, value in question.items() if told[key]}
+        question["certificate"] = left[2]
+    elif command != "info":
+        question["named"] = values.get("named", [])
+    for key in ("first", "second", "hold", "at", "keep_file"):
+        question |= {key: values[key][-1]} if key in values else {}
+    for key in ("flips", "required"):
+        question |= {key: int(values[key][-1])} if key in values else {}
+    return command, file, question
 
 
 def as_proved(text):

@@ -21,7 +21,7 @@ use Rattle.td_answer.specs.Statuses.{status_of}
 use Rattle.td_cli.specs.declared.fault.Fault.{Fault}
 use Rattle.td_cli.specs.declared.fault.Fault.TheVariants as fault
 use Rattle.td_cli.specs.declared.bytes.Bytes.{Bytes}
-use Rattle.td_cli.specs.Carrying.{Prints, Carries, IsEndWithout}
+use Rattle.td_cli.specs.Carrying.{Prints, Carries, IsEndWithout, IsUnreported}
 use Rattle.td_cli.specs.Reading.{AreBytes, AreTexts}
 use Rattle.td_cli.specs.Clashes.{IsFaultOf, IsOneFile, KeepsFiles, Overwrites, fault_status}
 use Rattle.td_cli.specs.Ends.{AreBad, Ends, Refuses, Shows, ShowsText, TellsFault}
@@ -61,10 +61,10 @@ ended_by disk request (fault.Unwritten name) ending is same = inl same
 ended_by disk request fault.NoTimer ending is same = inl same
 
 -- there is no outcome, since there is this fault of files and streams
-pub stopped : (disk : Disk) (request : Request) (found : Fault) (ending : Status) (old new : Output) → IsFaultOf disk request found → new ≡ old
+pub stopped : (disk : Disk) (request : Request) (found : Fault) (ending : Status) (old new : Output) → IsFaultOf disk request found → IsUnreported request ending old new
     → (ending ≡ fault_status found) ⊎ (ending ≡ status.Device) → Carries disk request ending old new
-stopped disk request found ending old new is silent (inl same) = inr (silent, ended_by disk request found ending is same)
-stopped disk request found ending old new is silent (inr so) = inr (silent, inl so)
+stopped disk request found ending old new is unreported (inl same) = inr (unreported, ended_by disk request found ending is same)
+stopped disk request found ending old new is unreported (inr so) = inr (unreported, inl so)
 
 -- the texts of bytes that the files hold
 pub texts_held : (holds : List ℕ → List ℕ → Type 0) (request : Request) (bytes : Bytes) (texts : Texts) → AreBytes holds request bytes
@@ -74,10 +74,10 @@ texts_held holds request bytes texts held netlist certificates keep = rw (netlis
 
 -- or since there is this reason
 pub refused : (disk : Disk) (request : Request) (texts : Texts) (reason : Refusal) (ending : Status) (old new : Output)
-    → AreTexts disk.holds request texts → IsRefused request texts reason → new ≡ old
+    → AreTexts disk.holds request texts → IsRefused request texts reason → IsUnreported request ending old new
     → (ending ≡ status_of reason) ⊎ (ending ≡ status.Device) → Carries disk request ending old new
-refused disk request texts reason ending old new held is silent (inl same) = inr (
-  silent,
+refused disk request texts reason ending old new held is unreported (inl same) = inr (
+  unreported,
   inr (inr (record {
     netlist = texts.netlist.now;
     certificates = texts.certificates.now;
@@ -88,7 +88,7 @@ refused disk request texts reason ending old new held is silent (inl same) = inr
     ends = same;
   })),
 )
-refused disk request texts reason ending old new held is silent (inr so) = inr (silent, inl so)
+refused disk request texts reason ending old new held is unreported (inr so) = inr (unreported, inl so)
 
 -- an outcome that is true of what was read was printed
 pub carried : (disk : Disk) (request : Request) (texts : Texts) (outcome : Outcome) (ending : Status) (old new : Output)

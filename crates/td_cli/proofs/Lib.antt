@@ -6,3 +6,4 @@ pub mod TokenNames
 pub mod TreeNames
 pub mod NetNames
 pub mod DumpNames
+pub mod Asking

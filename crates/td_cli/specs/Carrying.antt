@@ -8,7 +8,8 @@ use Rattle.td_text.specs.Output.{Output, Sent, SentFront}
 use Rattle.td_files.specs.Disks.{Disk}
 use Rattle.td_lines.specs.declared.line.Line.{Line}
 use Rattle.td_lines.specs.Texts.{report_text}
-use Rattle.td_lines.specs.Values.{report_json}
+use Rattle.td_lines.specs.Asked.{Question, error_json, report_json}
+use Rattle.td_lines.specs.Said.{Entry}
 use Rattle.td_request.specs.declared.request.Command.{Command}
 use Rattle.td_request.specs.declared.request.Command.TheVariants as command
 use Rattle.td_request.specs.declared.request.Form.{Form}
@@ -20,16 +21,21 @@ use Rattle.td_answer.specs.declared.status.Status.TheVariants as status
 use Rattle.td_answer.specs.declared.refusal.Refusal.{Refusal}
 use Rattle.td_answer.specs.Filled.{filled}
 use Rattle.td_answer.specs.Outcomes.{SaysTrue, IsRefusedBy}
-use Rattle.td_answer.specs.Statuses.{status_of}
+use Rattle.td_answer.specs.Statuses.{code_of, status_of}
 use Rattle.td_command.specs.Conflicts.{conflict_of}
 use Rattle.td_cli.specs.Clashes.{HasClash, KeepsFiles}
+use Rattle.td_cli.specs.Asking.{asked_of}
 use Rattle.td_cli.specs.Files.{outputs_of, certificate_names, keep_file}
 
 -- a report in its form
-abbrev pub print_of : Form → List Line → List ℕ
-print_of form.Text report = report_text report
-print_of form.Json report = report_json report
-print_of form.Quiet report = []
+abbrev pub printed : Form → Question → List Line → List ℕ
+printed form.Text asked report = report_text report
+printed form.Json asked report = report_json asked report
+printed form.Quiet asked report = []
+
+-- a report in the form that a request asks for
+abbrev pub print_of : Request → List Line → List ℕ
+print_of request report = printed request.form (asked_of request) report
 
 -- a file goes to standard output
 abbrev pub goes_out : Option (Bor (List ℕ)) → Bool
@@ -42,12 +48,12 @@ HasPlace asked = (goes_out (outputs_of asked).certificate || goes_out (outputs_o
 
 -- the print of an outcome went out whole, or a file did in its place
 abbrev pub IsShown : Request → Outcome → Output → Output → Type 0
-IsShown request outcome old new = Sent old new (print_of request.form outcome.report) ⊎ (HasPlace request.command × (new ≡ old))
+IsShown request outcome old new = Sent old new (print_of request outcome.report) ⊎ (HasPlace request.command × (new ≡ old))
 
 -- What went out of an outcome is a beginning of its print. Unless a device failed or memory ran
 -- out, it is whole, and the program ends as the outcome says.
 pub record Prints (request : Request) (outcome : Outcome) (ending : Status) (old new : Output) : Type 0 where
-  pub shown : SentFront old new (print_of request.form outcome.report)
+  pub shown : SentFront old new (print_of request outcome.report)
   pub whole : (ending ≡ status.Device) ⊎ ((ending ≡ outcome.status) × IsShown request outcome old new)
 
 -- the files of the first of these names hold these texts, one for each
@@ -96,8 +102,14 @@ abbrev pub IsEndWithout : Disk → Request → Status → Type 0
 IsEndWithout disk request ending =
     (ending ≡ status.Device) ⊎ (((ending ≡ status.BadCommand) × HasClash disk request) ⊎ HasReason disk.holds request ending)
 
--- A request was carried out: an outcome that is true of what its files hold was printed, or nothing
--- went out, since there is none.
+-- Nothing went out; or, where JSON is asked for, a beginning of an object that says why, with the
+-- exit status.
+abbrev pub IsUnreported : Request → Status → Output → Output → Type 0
+IsUnreported request ending old new =
+    (new ≡ old) ⊎ ((request.form ≡ form.Json) × ((error : List Entry) × SentFront old new (error_json (asked_of request) error (code_of ending))))
+
+-- A request was carried out: an outcome that is true of what its files hold was printed, or none,
+-- since there is none.
 abbrev pub Carries : Disk → Request → Status → Output → Output → Type 0
 Carries disk request ending old new =
-    PrintsTrue disk request ending old new ⊎ ((new ≡ old) × IsEndWithout disk request ending)
+    PrintsTrue disk request ending old new ⊎ (IsUnreported request ending old new × IsEndWithout disk request ending)

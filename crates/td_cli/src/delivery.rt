@@ -163,14 +163,14 @@ fn report<'w, O: Sink>(
     outcome: &Outcome,
     out: &mut O,
 ) -> Result<(), Fault<'w>>
-    ensures shown { SentFront (O.output out.old) (O.output out.new) (print_of request.now.form outcome.now.report) }
+    ensures shown { SentFront (O.output out.old) (O.output out.new) (print_of request.now outcome.now.report) }
     ensures whole { OnOk result (IsShown request.now outcome.now (O.output out.old) (O.output out.new)) }
     ensures fault { IfErr result (λ fault. fault_status fault ≡ ending.Device) }
 {
     if is_beside(outputs_of(request), outcome) {
         return Ok(());
     }
-    show(alloc, request.form, outcome.report.lines(), out)
+    show(alloc, request, outcome.report.lines(), out)
 }
 
 /// Shows the report of an outcome, unless a file goes to standard output, and then writes its
@@ -183,7 +183,7 @@ pub(crate) fn deliver<'w, F: Files, O: Sink>(
     out: &mut O,
 ) -> Result<(), Fault<'w>>
     requires { CanBeWritten outcome.now }
-    ensures shown { SentFront (O.output out.old) (O.output out.new) (print_of request.now.form outcome.now.report) }
+    ensures shown { SentFront (O.output out.old) (O.output out.new) (print_of request.now outcome.now.report) }
     ensures whole { OnOk result (IsShown request.now outcome.now (O.output out.old) (O.output out.new)) }
     ensures fault { IfErr result (λ fault. fault_status fault ≡ ending.Device) }
 {

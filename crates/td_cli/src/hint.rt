@@ -27,14 +27,14 @@ use td_text::Sink;
 
 /// Writes a hint with the end of its last line to standard error; nothing where it is empty, or
 /// memory ran out.
-pub(crate) fn advise<E: Sink>(hint: Result<Text, AllocError>, err: &mut E) {
-    let Ok(mut text) = hint else {
+pub(crate) fn advise<E: Sink>(hint: &Result<Text, AllocError>, err: &mut E) {
+    let Ok(text) = hint else {
         return;
     };
-    if text.bytes().is_empty() || text.push(b"\n").is_err() {
-        return;
+    if !text.bytes().is_empty() {
+        tell(err, text.bytes());
+        tell(err, b"\n");
     }
-    tell(err, text.bytes());
 }
 
 /// Says of each file that a search is to write why it can't be written now, as far as the system
@@ -46,8 +46,8 @@ pub(crate) fn warn<E: Sink, A: Advice>(
     advice: &A,
 ) {
     if let Command::Worst(search) = &request.command {
-        advise(unwritable_now(alloc, search.certificate, advice), err);
-        advise(unwritable_now(alloc, search.dump, advice), err);
+        advise(&unwritable_now(alloc, search.certificate, advice), err);
+        advise(&unwritable_now(alloc, search.dump, advice), err);
     }
 }
 

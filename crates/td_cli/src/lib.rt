@@ -9,6 +9,7 @@
 #![tactic(auto)]
 
 mod advice;
+mod asked;
 mod board;
 mod bytes;
 mod deadline;
@@ -27,6 +28,7 @@ mod print;
 mod progress;
 mod refusals;
 mod shell;
+mod trouble;
 mod usage;
 mod vectors;
 mod waiting;

@@ -2,7 +2,6 @@
 
 ghost use Rattle.std.specs.Prelude.{◌≡◌, ◌⊎◌};
 ghost use Rattle.td_answer.specs.declared.status.Status.TheVariants as ending;
-ghost use Rattle.td_answer.specs.Statuses.{status_of};
 ghost use Rattle.td_cli.specs.Clashes.{fault_status};
 
 use crate::fault::Fault;
@@ -17,7 +16,11 @@ pub(crate) fn tell<E: Sink>(err: &mut E, bytes: &[u8]) {
 }
 
 /// Says a sentence, or that memory ran out where there is none. Answers how the program ends.
-fn say<E: Sink>(sentence: Result<Text, AllocError>, status: Status, err: &mut E) -> Status
+pub(crate) fn say<E: Sink>(
+    sentence: &Result<Text, AllocError>,
+    status: Status,
+    err: &mut E,
+) -> Status
     ensures { (result ≡ status) ⊎ (result ≡ ending.Device) }
 {
     match sentence {
@@ -32,13 +35,18 @@ fn say<E: Sink>(sentence: Result<Text, AllocError>, status: Status, err: &mut E)
     }
 }
 
-fn fault_sentence(alloc: Global, fault: Fault<'_>) -> Result<Text, AllocError> {
+/// The sentence of a fault, a line.
+pub(crate) fn fault_sentence(alloc: Global, fault: Fault<'_>) -> Result<Text, AllocError> {
     let mut text = Text::new(alloc);
     fault.sentence(&mut text)?;
     Ok(text)
 }
 
-fn refusal_sentence(alloc: Global, refusal: &Refusal<'_, '_>) -> Result<Text, AllocError> {
+/// The sentence of a refusal, a line.
+pub(crate) fn refusal_sentence(
+    alloc: Global,
+    refusal: &Refusal<'_, '_>,
+) -> Result<Text, AllocError> {
     let mut text = Text::new(alloc);
     refusal.sentence(&mut text)?;
     Ok(text)
@@ -48,12 +56,5 @@ fn refusal_sentence(alloc: Global, refusal: &Refusal<'_, '_>) -> Result<Text, Al
 pub(crate) fn tell_fault<E: Sink>(alloc: Global, fault: Fault<'_>, err: &mut E) -> Status
     ensures { (result ≡ fault_status fault.entry) ⊎ (result ≡ ending.Device) }
 {
-    say(fault_sentence(alloc, fault), fault.status(), err)
-}
-
-/// Says why there is no outcome. Answers how the program ends.
-pub(crate) fn tell_refusal<E: Sink>(alloc: Global, refusal: &Refusal<'_, '_>, err: &mut E) -> Status
-    ensures { (result ≡ status_of refusal.now) ⊎ (result ≡ ending.Device) }
-{
-    say(refusal_sentence(alloc, refusal), refusal.status(), err)
+    say(&fault_sentence(alloc, fault), fault.status(), err)
 }

@@ -3,15 +3,17 @@
 ghost use Rattle.std.specs.Prelude.{◌≡◌, IfOk, IfErr, OnOk};
 ghost use Rattle.td_text.specs.Output.{Sent, SentFront};
 ghost use Rattle.td_lines.specs.Texts.{report_text};
-ghost use Rattle.td_lines.specs.Values.{report_json};
+ghost use Rattle.td_lines.specs.Asked.{report_json};
 ghost use Rattle.td_answer.specs.declared.status.Status.TheVariants as ending;
+ghost use Rattle.td_cli.specs.Asking.{asked_of};
 ghost use Rattle.td_cli.specs.Carrying.{print_of};
 ghost use Rattle.td_cli.specs.Clashes.{fault_status};
 
+use crate::asked::asked;
 use crate::fault::Fault;
 use std::alloc::{AllocError, Global};
 use td_lines::{Line, Text, print_json, print_text};
-use td_request::Form;
+use td_request::{Form, Request};
 use td_text::Sink;
 
 fn as_text(alloc: Global, report: &[Line]) -> Result<Text, AllocError>
@@ -45,31 +47,44 @@ fn show_text<'w, O: Sink>(alloc: Global, report: &[Line], out: &mut O) -> Result
     }
 }
 
-fn show_json<'w, O: Sink>(alloc: Global, report: &[Line], out: &mut O) -> Result<(), Fault<'w>>
-    ensures front { SentFront (O.output out.old) (O.output out.new) (report_json report.now) }
-    ensures whole { OnOk result (Sent (O.output out.old) (O.output out.new) (report_json report.now)) }
+fn json_of(alloc: Global, request: &Request<'_>, report: &[Line]) -> Result<Vec<u8>, AllocError>
+    ensures { IfOk result (λ text. text.items ≡ report_json (asked_of request.now) report.now) }
+{
+    let asked = asked(alloc, request)?;
+    print_json(alloc, &asked, report)
+}
+
+fn show_json<'w, O: Sink>(
+    alloc: Global,
+    request: &Request<'_>,
+    report: &[Line],
+    out: &mut O,
+) -> Result<(), Fault<'w>>
+    ensures front { SentFront (O.output out.old) (O.output out.new) (report_json (asked_of request.now) report.now) }
+    ensures whole { OnOk result (Sent (O.output out.old) (O.output out.new) (report_json (asked_of request.now) report.now)) }
     ensures fault { IfErr result (λ fault. fault_status fault ≡ ending.Device) }
 {
-    match print_json(alloc, report) {
+    match json_of(alloc, request, report) {
         Ok(text) => write(&text, out),
         Err(_) => Err(Fault::OutOfMemory),
     }
 }
 
-/// Writes a report in its form to standard output: all of it, or a beginning.
+/// Writes a report to standard output, in the form that the request asks for: all of it, or a
+/// beginning.
 pub(crate) fn show<'w, O: Sink>(
     alloc: Global,
-    form: Form,
+    request: &Request<'_>,
     report: &[Line],
     out: &mut O,
 ) -> Result<(), Fault<'w>>
-    ensures front { SentFront (O.output out.old) (O.output out.new) (print_of form report.now) }
-    ensures whole { OnOk result (Sent (O.output out.old) (O.output out.new) (print_of form report.now)) }
+    ensures front { SentFront (O.output out.old) (O.output out.new) (print_of request.now report.now) }
+    ensures whole { OnOk result (Sent (O.output out.old) (O.output out.new) (print_of request.now report.now)) }
     ensures fault { IfErr result (λ fault. fault_status fault ≡ ending.Device) }
 {
-    match form {
+    match request.form {
         Form::Quiet => Ok(()),
         Form::Text => show_text(alloc, report, out),
-        Form::Json => show_json(alloc, report, out),
+        Form::Json => show_json(alloc, request, report, out),
     }
 }

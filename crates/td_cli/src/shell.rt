@@ -7,7 +7,7 @@ ghost use Rattle.td_answer.specs.Outcomes.{IsPlain};
 ghost use Rattle.td_answer.specs.Statuses.{status_of};
 ghost use Rattle.td_answer.specs.Writing.{CanBeWritten};
 ghost use Rattle.td_answer.specs.declared.status.Status.TheVariants as ending;
-ghost use Rattle.td_cli.specs.Carrying.{Carries, Prints};
+ghost use Rattle.td_cli.specs.Carrying.{Carries, IsUnreported, Prints};
 ghost use Rattle.td_cli.specs.Clashes.{fault_status};
 ghost use Rattle.td_cli.specs.Ends.{Ends, Refuses, Shows, words_status};
 
@@ -17,7 +17,8 @@ use crate::delivery::deliver;
 use crate::fault::Fault;
 use crate::hint::{advise, ending_hint, fault_hint, refusal_hint, warn};
 use crate::judging::{judged, shows_progress};
-use crate::message::{tell, tell_fault, tell_refusal};
+use crate::message::{fault_sentence, refusal_sentence, say, tell, tell_fault};
+use crate::trouble::{Trouble, show_trouble};
 use crate::usage::tell_usage;
 use std::alloc::Global;
 use std::convert::AsStr;
@@ -36,11 +37,11 @@ use td_text::Sink;
 ///
 /// Each file that the words name is read once, before anything is judged. What is answered goes to
 /// `out` in the form that the words ask for (text, JSON or nothing), and then the certificate and
-/// the waves go to their files. Why it is refused goes to `err`; a hint follows where
-/// the words or `advice` ask for one. Help and the version go to `out`.
+/// the waves go to their files. Why it is refused goes to `err`, and where JSON is asked for to `out`
+/// too; a hint follows where the words or `advice` ask for one. Help and the version go to `out`.
 ///
 /// What goes out is the print of an outcome that is true of what the files hold, or a beginning of
-/// it where a device fails or memory runs out; or nothing, for a reason that holds. `Status::code`
+/// it where a device fails or memory runs out; or no outcome, for a reason that holds. `Status::code`
 /// is the exit status.
 pub fn program<
     R: Threads + Wait + Clock + Sync,
@@ -168,18 +169,18 @@ pub fn carry_out<R: Threads + Wait + Clock + Sync, F: Files, O: Sink, E: Sink, A
 {
     let bytes = match bytes_for(alloc, request, files) {
         Ok(bytes) => bytes,
-        Err(fault) => return stop(alloc, request, fault, err, advice),
+        Err(fault) => return stop(alloc, request, fault, out, err, advice),
     };
     if advice.is_wanted(request.hints) || shows_progress(request) {
         warn(alloc, request, err, advice);
     }
     let texts = bytes.texts();
     let Some(found) = judged(rt, alloc, request, &texts, err, advice) else {
-        return stop(alloc, request, Fault::NoTimer, err, advice);
+        return stop(alloc, request, Fault::NoTimer, out, err, advice);
     };
     match found {
         Ok(outcome) => finish(alloc, request, &outcome, files, out, err, advice),
-        Err(refusal) => refuse(alloc, request, &bytes.netlist, &refusal, err, advice),
+        Err(refusal) => refuse(alloc, request, &bytes.netlist, &refusal, out, err, advice),
     }
 }
 
@@ -196,12 +197,20 @@ fn carry_out_plain<F: Files, O: Sink, E: Sink>(
 {
     let bytes = match bytes_for(alloc, request, files) {
         Ok(bytes) => bytes,
-        Err(fault) => return tell_fault(alloc, fault, err),
+        Err(fault) => return stop(alloc, request, fault, out, err, &NoAdvice),
     };
     let texts = bytes.texts();
     match answer_plain(alloc, request, &texts, &Stop::never()) {
         Ok(outcome) => finish(alloc, request, &outcome, files, out, err, &NoAdvice),
-        Err(refusal) => tell_refusal(alloc, &refusal, err),
+        Err(refusal) => refuse(
+            alloc,
+            request,
+            &bytes.netlist,
+            &refusal,
+            out,
+            err,
+            &NoAdvice,
+        ),
     }
 }
 
@@ -221,16 +230,36 @@ fn finish<F: Files, O: Sink, E: Sink, A: Advice>(
     match deliver(alloc, request, outcome, files, out) {
         Ok(()) => {
             if advice.is_wanted(request.hints) {
-                advise(ending_hint(alloc, request, outcome), err);
+                advise(&ending_hint(alloc, request, outcome), err);
             }
             outcome.status
         }
-        Err(fault) => stop(alloc, request, fault, err, advice),
+        Err(fault) => break_off(alloc, request, fault, err, advice),
     }
 }
 
-/// Says what a fault is. Answers how the program ends.
-fn stop<E: Sink, A: Advice>(
+/// Says what a fault is, before anything went out. Answers how the program ends.
+fn stop<O: Sink, E: Sink, A: Advice>(
+    alloc: Global,
+    request: &Request<'_>,
+    fault: Fault<'_>,
+    out: &mut O,
+    err: &mut E,
+    advice: &A,
+) -> Status
+    ensures ends { (result ≡ fault_status fault.entry) ⊎ (result ≡ ending.Device) }
+    ensures shown { IsUnreported request.now result (O.output out.old) (O.output out.new) }
+{
+    let trouble = Trouble {
+        sentence: fault_sentence(alloc, fault),
+        hint: fault_hint(alloc, fault, advice),
+    };
+    let status = say(&trouble.sentence, fault.status(), err);
+    end(alloc, request, trouble, status, out, err, advice)
+}
+
+/// Says what a fault is, once a report is begun. Answers how the program ends.
+fn break_off<E: Sink, A: Advice>(
     alloc: Global,
     request: &Request<'_>,
     fault: Fault<'_>,
@@ -241,28 +270,52 @@ fn stop<E: Sink, A: Advice>(
 {
     let status = tell_fault(alloc, fault, err);
     if advice.is_wanted(request.hints) {
-        advise(fault_hint(alloc, fault, advice), err);
+        advise(&fault_hint(alloc, fault, advice), err);
     }
     status
 }
 
 /// Says why there is no outcome. Answers how the program ends.
-fn refuse<E: Sink, A: Advice>(
+fn refuse<O: Sink, E: Sink, A: Advice>(
     alloc: Global,
     request: &Request<'_>,
     netlist: &[u8],
     refusal: &Refusal<'_, '_>,
+    out: &mut O,
     err: &mut E,
     advice: &A,
 ) -> Status
-    ensures { (result ≡ status_of refusal.now) ⊎ (result ≡ ending.Device) }
+    ensures ends { (result ≡ status_of refusal.now) ⊎ (result ≡ ending.Device) }
+    ensures shown { IsUnreported request.now result (O.output out.old) (O.output out.new) }
 {
     if let Refusal::Unread(name) = refusal {
-        return stop(alloc, request, Fault::Unread(name), err, advice);
+        return stop(alloc, request, Fault::Unread(name), out, err, advice);
     }
-    let status = tell_refusal(alloc, refusal, err);
+    let trouble = Trouble {
+        sentence: refusal_sentence(alloc, refusal),
+        hint: refusal_hint(alloc, request, netlist, refusal),
+    };
+    let status = say(&trouble.sentence, refusal.status(), err);
+    end(alloc, request, trouble, status, out, err, advice)
+}
+
+/// A hint, where one is wanted, and the JSON of why there is no outcome, where that is asked for.
+/// Answers this status.
+fn end<O: Sink, E: Sink, A: Advice>(
+    alloc: Global,
+    request: &Request<'_>,
+    trouble: Trouble,
+    status: Status,
+    out: &mut O,
+    err: &mut E,
+    advice: &A,
+) -> Status
+    ensures ends { result ≡ status }
+    ensures shown { IsUnreported request.now result (O.output out.old) (O.output out.new) }
+{
     if advice.is_wanted(request.hints) {
-        advise(refusal_hint(alloc, request, netlist, refusal), err);
+        advise(&trouble.hint, err);
     }
+    show_trouble(alloc, request, trouble, status, out);
     status
 }

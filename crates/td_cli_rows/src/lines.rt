@@ -5,9 +5,9 @@ use std::process::Abort;
 use std::test::*;
 use td_gates::{Kind, Level};
 use td_lines::{
-    Cause, Change, Changes, Driver, Figure, Found, Hazard, HazardRow, Label, Last, Line, Moments,
-    Part, Place, Report, Requirement, Row, Span, Standing, Text, Vector, Vectors, print_json,
-    print_text,
+    Asked, Cause, Change, Changes, Driver, Figure, Found, Hazard, HazardRow, Label, Last, Line,
+    Moments, Part, Place, Report, Requirement, Row, Said, Span, Standing, Terms, Text, Vector,
+    Vectors, print_error, print_json, print_text,
 };
 use td_nets::{Scale, Unit};
 
@@ -304,7 +304,33 @@ fn told(alloc: Global) -> Result<Report, AllocError> {
     Ok(report)
 }
 
-/// Whether a report is printed so.
+/// How each object begins.
+const HEAD: &str = "{\"proved\":true,\"command\":\"bound\",\"file\":\"c\\\"17.v\",\
+\"question\":{\"default\":[1,2],\"output\":[\"y\",\"z\"],\"first\":\"0.\",\"flips\":1,\
+\"named\":[[\"--pin\",\"a=0\"]]},";
+
+/// What was asked.
+fn asked(alloc: Global) -> Result<Asked, AllocError> {
+    let mut outputs = Vec::new(alloc);
+    outputs.push(label(alloc, "y")?)?;
+    outputs.push(label(alloc, "z")?)?;
+    let mut words = Vec::new(alloc);
+    words.push(label(alloc, "--pin")?)?;
+    words.push(label(alloc, "a=0")?)?;
+    let mut question = Terms::new(alloc);
+    question.add("default", Said::Numbers(1, 2))?;
+    question.add("output", Said::Words(outputs))?;
+    question.add("first", Said::Word(label(alloc, "0.")?))?;
+    question.add("flips", Said::Number(1))?;
+    question.add("named", Said::Options(one(alloc, Part { words })?))?;
+    Ok(Asked {
+        command: "bound",
+        file: label(alloc, "c\"17.v")?,
+        question,
+    })
+}
+
+/// Whether a report is printed so, its JSON after the members that say what was asked.
 fn prints(
     rt: &impl Abort,
     alloc: Global,
@@ -315,7 +341,8 @@ fn prints(
     let mut out = Text::new(alloc);
     print_text(&mut out, report.lines())?;
     assert_eq!(rt; out.bytes(), text.as_bytes());
-    let printed = print_json(alloc, report.lines())?;
+    let printed = print_json(alloc, &asked(alloc)?, report.lines())?;
+    let json = format!(in alloc; "{HEAD}{json}")?;
     assert_eq!(rt; printed.as_slice(), json.as_bytes());
     Ok(())
 }
@@ -329,7 +356,7 @@ fn prints_a_netlist(rt: HostRuntime) -> Result<(), Fail> {
         &report,
         "module t\nunit 10 ps\ninputs 1\noutputs 1\ngates 2\ndefaulted 0\ndepth 2\ndelay 2 3\n\
 delay none\ninput 0 \\a+ [1]\noutput 0 y\n",
-        "{\"proved\":true,\"module\":\"t\",\"unit\":\"10 ps\",\"inputs\":1,\"outputs\":1,\"gates\":2,\"defaulted\":0,\
+        "\"module\":\"t\",\"unit\":\"10 ps\",\"inputs\":1,\"outputs\":1,\"gates\":2,\"defaulted\":0,\
 \"depth\":2,\"delay\":[2,3],\"delay\":null,\"input\":[[0,\"\\\\a+ [1]\"]],\"output\":[[0,\"y\"]]}\n",
     )
 }
@@ -343,7 +370,7 @@ fn prints_a_run(rt: HostRuntime) -> Result<(), Fail> {
         &report,
         "last y 5\nlast z never\ntime 5\noutput y\nchange 0 a 0 x input\nchange 5 y x 1 xnor 5\n\
 a 7\nt none\n",
-        "{\"proved\":true,\"last\":[[\"y\",5],[\"z\",null]],\"time\":5,\"output\":[\"y\"],\
+        "\"last\":[[\"y\",5],[\"z\",null]],\"time\":5,\"output\":[\"y\"],\
 \"change\":[[0,\"a\",\"0\",\"x\",\"input\"],[5,\"y\",\"x\",\"1\",\"xnor\",5]],\"a\":7,\"t\":null}\n",
     )
 }
@@ -361,7 +388,7 @@ each z between none 5 edges 5\neach w none edges 3\n\
 each v exact 5 edges 5 from 1 to 0 rise 5 fall 2..4 glitch never\n\
 each u none edges none rise none fall none..4 glitch 0..4\n\
 hazard y 0 can 01 11\nhazard y 1 never\nhazard z 0 none\nhazard z 1 open\n--first 0.\n",
-        "{\"proved\":true,\"exact\":5,\"between\":[2,5],\"between\":[null,7],\"none\":true,\"cause\":\"budget\",\"from\":\"01\",\
+        "\"exact\":5,\"between\":[2,5],\"between\":[null,7],\"none\":true,\"cause\":\"budget\",\"from\":\"01\",\
 \"to\":\"none\",\"nodes\":9,\
 \"each\":[[\"y\",\"exact\",5,\"edges\",7,\"from\",\"01\",\"to\",\"none\"],[\"exact\",\"between\",2,5,\"edges\",null],\
 [\"z\",\"between\",null,5,\"edges\",5],[\"w\",\"none\",\"edges\",3],\
@@ -386,7 +413,7 @@ each w between 2 5 edges 5 required open slack -1..2\n\
 each x between none 5 edges 5 required open slack -1..none\n\
 each y none edges 5 required met slack none\n\
 each z exact 1 edges 5 rise 1 fall none glitch never required met slack 3\n",
-        "{\"proved\":true,\
+        "\
 \"each\":[[\"u\",\"exact\",4,\"edges\",5,\"required\",\"met\",\"slack\",0],\
 [\"v\",\"exact\",5,\"edges\",5,\"required\",\"violated\",\"slack\",-1],\
 [\"w\",\"between\",2,5,\"edges\",5,\"required\",\"open\",\"slack\",[-1,2]],\
@@ -405,7 +432,7 @@ fn prints_a_verdict(rt: HostRuntime) -> Result<(), Fail> {
         &report,
         "accepted 5\nfirst 0.\nsecond ..\nhold =.\nflips 1\nat 0 7\nat none\n\
 refused 7 OtherCircuit\nrefused 3 LeafBound line 12\n",
-        "{\"proved\":true,\"accepted\":5,\"first\":\"0.\",\"second\":\"..\",\"hold\":\"=.\",\"flips\":1,\"at\":[0,7],\"at\":null,\
+        "\"accepted\":5,\"first\":\"0.\",\"second\":\"..\",\"hold\":\"=.\",\"flips\":1,\"at\":[0,7],\"at\":null,\
 \"refused\":[7,\"OtherCircuit\"],\"refused\":[3,\"LeafBound\",\"line\",12]}\n",
     )
 }
@@ -419,9 +446,21 @@ fn prints_what_is_told(rt: HostRuntime) -> Result<(), Fail> {
         &report,
         "accepted between 2 5\naccepted none\nunchecked 3\nunchecked between 3 7\nunchecked none\ndefault 1 3\noutput all\n\
 output 4\nkeep 2 01 5 ==\n",
-        "{\"proved\":true,\"accepted\":[2,5],\"accepted\":\"none\",\"unchecked\":3,\"unchecked\":[3,7],\"unchecked\":\"none\",\
+        "\"accepted\":[2,5],\"accepted\":\"none\",\"unchecked\":3,\"unchecked\":[3,7],\"unchecked\":\"none\",\
 \"default\":\"1 3\",\"output\":[\"all\"],\
 \"output\":[[4]],\
 \"keep\":\"2 01 5 ==\"}\n",
     )
+}
+
+#[test]
+fn prints_an_error(rt: HostRuntime) -> Result<(), Fail> {
+    let alloc = rt.alloc();
+    let mut error = Terms::new(alloc);
+    error.add("message", Said::Word(label(alloc, "no admitted pair")?))?;
+    let printed = print_error(alloc, &asked(alloc)?, &error, 1)?;
+    let json = "\"error\":{\"message\":\"no admitted pair\"},\"status\":1}\n";
+    let wanted = format!(in alloc; "{HEAD}{json}")?;
+    assert_eq!(rt; printed.as_slice(), wanted.as_bytes());
+    Ok(())
 }

@@ -1,12 +1,14 @@
 -- Loops over lines and rows: what their tokens and the end are.
-use Rattle.std.proofs.Common.{◌≡◌, ◌∙◌, List, [], ◌∷◌, ◌++◌, refl, ap, append_assoc, Result, Ok, Err, OnOk}
+use Rattle.std.proofs.Common.{◌≡◌, ◌∙◌, List, [], ◌∷◌, ◌++◌, refl, ap, append_assoc, map, Result, Ok, Err, OnOk}
 use Rattle.std.specs.List.{flat_map}
 use Rattle.std.proofs.lemmas.List.Concat.{flat_map-cons}
 use Rattle.json.specs.Json.{Json}
 use Rattle.json.specs.Token.{Token, end_array, end_object}
 use Rattle.json.specs.Tree.{json_tokens, items_tokens, members_tokens}
+use Rattle.td_lines.specs.declared.terms.Term.{Term}
 use Rattle.td_lines.specs.declared.line.Line.{Line}
 use Rattle.json.specs.Written.{Written, Writes}
+use Rattle.td_lines.specs.Said.{entry_of, members_by, term_tokens}
 use Rattle.td_lines.specs.Values.{Adds, rows_tokens, items_by, line_tokens, members_of}
 
 pub items_end : {A : Type 0} (value : A → Json) (rows : List A) → rows_tokens value rows ++ end_array ∷ [] ≡ items_tokens (items_by value rows)
@@ -20,6 +22,12 @@ lines_end [] = refl
 lines_end (line ∷ lines) =
     ap (λ (ts : List Token). ts ++ end_object ∷ []) (flat_map-cons line_tokens line lines)
     ∙ append_assoc (line_tokens line) (flat_map line_tokens lines) (end_object ∷ []) ∙ ap (λ (ts : List Token). line_tokens line ++ ts) (lines_end lines)
+
+pub terms_end : (terms : List Term) → flat_map term_tokens terms ++ end_object ∷ [] ≡ members_tokens (members_by (map entry_of terms))
+terms_end [] = refl
+terms_end (term ∷ terms) =
+    ap (λ (ts : List Token). ts ++ end_object ∷ []) (flat_map-cons term_tokens term terms)
+    ∙ append_assoc (term_tokens term) (flat_map term_tokens terms) (end_object ∷ []) ∙ ap (λ (ts : List Token). term_tokens term ++ ts) (terms_end terms)
 
 -- all that a loop wrote, and the token that ends it
 module _ {E : Type 0} (result : Result (Unit {0}) E) (old mid new : Written) where
@@ -37,6 +45,10 @@ module _ {E : Type 0} (result : Result (Unit {0}) E) (old mid new : Written) whe
   pub items_closed : {A : Type 0} (value : A → Json) (rows : List A) → Adds old mid (rows_tokens value rows)
       → Writes result mid new end_array → OnOk result (Adds old new (items_tokens (items_by value rows)))
   items_closed value rows adds writes = closed (rows_tokens value rows) end_array _ (items_end value rows) adds writes
+
+  pub terms_closed : (terms : List Term) → Adds old mid (flat_map term_tokens terms)
+      → Writes result mid new end_object → OnOk result (Adds old new (members_tokens (members_by (map entry_of terms))))
+  terms_closed terms adds writes = closed (flat_map term_tokens terms) end_object _ (terms_end terms) adds writes
 
   pub lines_closed : (lines : List Line) → Adds old mid (flat_map line_tokens lines)
       → Writes result mid new end_object → OnOk result (Adds old new (members_tokens (members_of lines)))

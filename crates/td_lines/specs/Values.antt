@@ -1,9 +1,8 @@
 -- The JSON of a report: an object with a member for each line.
 use Rattle.std.specs.Prelude.{◌≡◌, ℕ, true, List, [], ◌∷◌, ◌++◌, codes, decimal, Option, Some, None}
 use Rattle.std.specs.List.{flat_map}
-use Rattle.json.specs.Json.{Json, null, boolean, number, string, array, object, Items, no_items, item, Members, no_members, member}
+use Rattle.json.specs.Json.{Json, null, boolean, number, string, array, Items, no_items, item, Members, no_members, member}
 use Rattle.json.specs.Token.{Token}
-use Rattle.json.specs.Print.{print}
 use Rattle.json.specs.Token as token
 use Rattle.json.specs.Tree.{json_tokens}
 use Rattle.json.specs.Written.{Written}
@@ -29,7 +28,7 @@ use Rattle.td_lines.specs.declared.line.Hazard.TheVariants as hazard
 use Rattle.td_lines.specs.declared.line.HazardRow.{HazardRow}
 use Rattle.td_lines.specs.declared.line.Line.{Line}
 use Rattle.td_lines.specs.declared.line.Line.TheVariants as line
-use Rattle.td_lines.specs.Texts.{bit, bits, late, figure_key, level_text, kind_text, newline, slack_text, standing_text}
+use Rattle.td_lines.specs.Texts.{bit, bits, late, figure_key, level_text, kind_text, slack_text, standing_text}
 
 -- these tokens were added, and what stood before them stays
 pub record Adds (old new : Written) (tokens : List Token) : Type 0 where
@@ -287,7 +286,3 @@ line_tokens printed = member_tokens (key_of printed) (value_of printed)
 abbrev pub members_of : List Line → Members
 members_of [] = no_members
 members_of (printed ∷ lines) = member (key_of printed) (value_of printed) (members_of lines)
-
--- whether the program is proved, and then the lines, on one line
-abbrev pub report_json : List Line → List ℕ
-report_json report = print (json_tokens (object (member (codes "proved") (boolean true) (members_of report)))) ++ newline

@@ -1,11 +1,11 @@
-//! Reports as JSON: an object with a member for each line.
+//! The members of a report as JSON, one for each line.
 
 ghost use Rattle.std.specs.Prelude.{◌≡◌, ◌∷◌, [], true, map, codes, decimal, string_bytes, Some, None, IfOk, OnOk};
 ghost use Rattle.json.specs.Json.{boolean, number, string, array, Json};
 ghost use Rattle.json.specs.Tree.{json_tokens, items_tokens, members_tokens};
 ghost use Rattle.td_nets.specs.Scales.{scale_text};
 ghost use Rattle.td_lines.specs.Texts.{bit, bits, level_text, kind_text};
-ghost use Rattle.td_lines.specs.Values.{Adds, items_by, rows_tokens, count_value, unit_text, cause_text, required_value, moment_of, numbers_of, span_value, place_value, last_value, driven_value, change_value, part_value, member_tokens, line_tokens, members_of, report_json, named, at_value, none_to};
+ghost use Rattle.td_lines.specs.Values.{Adds, items_by, rows_tokens, count_value, unit_text, cause_text, required_value, moment_of, numbers_of, span_value, place_value, last_value, driven_value, change_value, part_value, member_tokens, line_tokens, members_of, named, at_value, none_to};
 
 use crate::claims;
 use crate::label::Label;
@@ -50,7 +50,11 @@ fn values_ended<V: Valued>(
 }
 
 /// An array of the values.
-fn list<V: Valued>(alloc: Global, writer: &mut Writer, items: &[V]) -> Result<(), AllocError>
+pub(crate) fn list<V: Valued>(
+    alloc: Global,
+    writer: &mut Writer,
+    items: &[V],
+) -> Result<(), AllocError>
     ensures { OnOk result (Adds writer.old writer.new (json_tokens (array (items_by V.value items.now)))) }
 {
     writer.begin_array()?;
@@ -70,27 +74,9 @@ fn lists<V: Valued>(
     list(alloc, writer, items)
 }
 
-/// Whether the program is proved: `build/unproved.py` compiles one that says that it isn't.
-const IS_PROVED: bool = true;
-
-/// The JSON of a report, a text of one line: whether the program is proved, and then a member for
-/// each of the report's lines.
-pub fn print_json(alloc: Global, report: &[Line]) -> Result<Vec<u8>, AllocError>
-    ensures { IfOk result (λ text. text.items ≡ report_json report.now) }
-{
-    let mut writer = Writer::new(Vec::new(alloc));
-    writer.begin_object()?;
-    writer.key("proved")?;
-    writer.boolean(IS_PROVED)?;
-    object(alloc, &mut writer, report)?;
-    let mut text = writer.into_inner();
-    text.push(b'\n')?;
-    Ok(text)
-}
-
 /// The members, and the end of the object.
 #[tactic(auto, using(crate::proofs::Steps::lines_end))]
-fn object(alloc: Global, writer: &mut Writer, report: &[Line]) -> Result<(), AllocError>
+pub(crate) fn object(alloc: Global, writer: &mut Writer, report: &[Line]) -> Result<(), AllocError>
     ensures { OnOk result (Adds writer.old writer.new (members_tokens (members_of report.now))) }
 {
     for line in report {
@@ -150,7 +136,7 @@ fn member(alloc: Global, writer: &mut Writer, line: &Line) -> Result<(), AllocEr
     }
 }
 
-fn count_of(writer: &mut Writer, key: &str, count: u64) -> Result<(), AllocError>
+pub(crate) fn count_of(writer: &mut Writer, key: &str, count: u64) -> Result<(), AllocError>
     ensures { OnOk result (Adds writer.old writer.new (member_tokens key.now (number (decimal count)))) }
 {
     writer.key(key)?;

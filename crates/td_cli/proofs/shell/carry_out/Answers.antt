@@ -1,4 +1,3 @@
-use Rattle.std.proofs.Common.{refl}
 use Rattle.td_cli.proofs.Ending.{carried, refused, texts_held}
 use Rattle.td_cli.proofs.shell.carry_out.Goals as goal
 
@@ -16,4 +15,4 @@ returns g c =
     refused disk c.args.request.now c.texts-texts.result c.in-Err-found.refusal _ _ _
     (texts_held disk.holds c.args.request.now c.in-Ok.bytes c.texts-texts.result c.in-Ok.ensures.held
     c.texts-texts.ensures.netlist c.texts-texts.ensures.certificates c.texts-texts.ensures.keep)
-    (rw c.in-Err-found.is at c.in-Some.ensures.refusal) refl c.refuse.ensures
+    (rw c.in-Err-found.is at c.in-Some.ensures.refusal) c.refuse.ensures.shown c.refuse.ensures.ends

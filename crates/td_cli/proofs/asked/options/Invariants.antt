@@ -1,0 +1,6 @@
+use Rattle.std.proofs.Common.{◌≡◌, map, take}
+use Rattle.td_cli.specs.Asking.{taken_words}
+use Rattle.td_cli.proofs.asked.options.Given as goal
+
+abbrev pub invariant-loop-taken : goal.invariant-loop-taken
+invariant-loop-taken l = map (λ part. part.words.items) l.options.items ≡ map taken_words (take l.taken-index l.named)
