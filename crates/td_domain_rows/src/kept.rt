@@ -58,6 +58,8 @@ fn runs_end_by_a_stop(rt: HostRuntime) -> Result<(), Fail> {
     let alloc = rt.alloc();
     let text = module(alloc, "a", "y", GATES)?;
     let circuit = circuit_of(alloc, &text).ok_or("a circuit")?;
+    assert_eq!(rt; circuit.input_count(), 1);
+    assert_eq!(rt; circuit.net_count(), 6);
     let stop = Stop::new();
     let whole = waves_until(alloc, &circuit, &[Level::Zero], &[Level::One], &stop)?;
     assert!(rt; whole.is_some());
