@@ -46,10 +46,10 @@ def cases(text):
 
 def printed(command, folder, environment):
     """Runs a command, and gives how it ended and the lines that a transcript has for it. They are
-    those of a proved program, whatever this one says of itself."""
+    those of a proved program, whatever this one says of itself, in any checkout."""
     ran = running.run_bytes(["bash", "-c", command], folder, seconds=LONGEST, env=environment)
     text = (ran.out + ran.err).decode(errors="backslashreplace")
-    lines = reports.as_proved(text).splitlines()
+    lines = reports.as_proved(text).replace(places.EXAMPLES, "$NETLISTS").splitlines()
     return ran, lines + [f"[{ran.status}]"] * (ran.status != 0)
 
 
@@ -63,7 +63,8 @@ def try_json(tested, command, ran, folder, environment):
     got = (again.status, again.err, said)
     tested.expect(f"{command} --json", wanted, got, "as JSON")
     if said is not None:
-        asked = reports.asked_in(shlex.split(command)[1:])
+        words = shlex.split(command.replace("$NETLISTS", places.EXAMPLES))
+        asked = reports.asked_in(words[1:])
         named = reports.asked_of_json(again.out)
         if named != asked:
             tested.fault(f"{command} --json: asked {named!r}, not {asked!r}")

@@ -238,7 +238,7 @@ is known, and where there is none.
   defaulted 0
   each y none edges 5 required met slack none
   $ tdelay worst hazard.v --each --required 4 --keep a=10 --keep a=01 --json | grep -o '\[\[.*'
-  [["y","none","edges",5,"required","met","slack","none"]]}
+  [["--keep","a=10"],["--keep","a=01"]],"required":4},"unit":"1 ns","defaulted":0,"each":[["y","none","edges",5,"required","met","slack","none"]]}
 
 By bounds alone, those by edges too: met, or open at once. Inputs may be held, and flips counted.
 

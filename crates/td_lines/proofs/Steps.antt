@@ -29,9 +29,16 @@ terms_end (term ∷ terms) =
     ap (λ (ts : List Token). ts ++ end_object ∷ []) (flat_map-cons term_tokens term terms)
     ∙ append_assoc (term_tokens term) (flat_map term_tokens terms) (end_object ∷ []) ∙ ap (λ (ts : List Token). term_tokens term ++ ts) (terms_end terms)
 
+-- more was written behind it
+pub adds_more : {old mid new : Written} (front more : List Token) → Adds old mid front → Adds mid new more → Adds old new (front ++ more)
+adds_more {old} front more one two = record {
+  added = two.added ∙ ap (λ (ts : List Token). ts ++ more) one.added ∙ append_assoc old.tokens front more;
+  before = two.before ∙ one.before;
+}
+
 -- all that a loop wrote, and the token that ends it
 module _ {E : Type 0} (result : Result (Unit {0}) E) (old mid new : Written) where
-  closed : (front : List Token) (end : Token) (all : List Token) → front ++ end ∷ [] ≡ all → Adds old mid front
+  pub closed : (front : List Token) (end : Token) (all : List Token) → front ++ end ∷ [] ≡ all → Adds old mid front
       → Writes result mid new end → OnOk result (Adds old new all)
   closed front end all is adds writes = go result writes
     where

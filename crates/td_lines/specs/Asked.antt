@@ -43,7 +43,10 @@ object_line asked others = print (json_tokens (object (member (codes "proved") (
 abbrev pub report_json : Question → List Line → List ℕ
 report_json asked report = object_line asked (members_of report)
 
+-- why there is no report, and the exit status
+abbrev pub error_members : List Entry → ℕ → Members
+error_members error status = member (codes "error") (object (members_by error)) (member (codes "status") (number (decimal status)) no_members)
+
 -- the JSON of a refusal
 abbrev pub error_json : Question → List Entry → ℕ → List ℕ
-error_json asked error status =
-    object_line asked (member (codes "error") (object (members_by error)) (member (codes "status") (number (decimal status)) no_members))
+error_json asked error status = object_line asked (error_members error status)

@@ -1,10 +1,12 @@
 //! Reports and refusals as JSON: objects.
 
-ghost use Rattle.std.specs.Prelude.{◌≡◌, ◌++◌, [], IfOk};
+ghost use Rattle.std.specs.Prelude.{◌≡◌, ◌++◌, [], IfOk, OnOk};
 ghost use Rattle.json.specs.Print.{print};
-ghost use Rattle.td_lines.specs.Asked.{error_json, opening, question_of, report_json};
+ghost use Rattle.json.specs.Tree.{members_tokens};
+ghost use Rattle.td_lines.specs.Asked.{error_json, error_members, opening, question_of, report_json};
 ghost use Rattle.td_lines.specs.Said.{entries_of};
 ghost use Rattle.td_lines.specs.Texts.{newline};
+ghost use Rattle.td_lines.specs.Values.{Adds};
 
 use crate::asked::{Asked, head, object_of};
 use crate::line::Line;
@@ -47,6 +49,20 @@ pub fn print_json(alloc: Global, asked: &Asked, report: &[Line]) -> Result<Vec<u
     ended(writer)
 }
 
+/// Why there is no report, the exit status, and the end of the object.
+fn error_ended(
+    alloc: Global,
+    writer: &mut Writer,
+    error: &Terms,
+    status: u64,
+) -> Result<(), AllocError>
+    ensures { OnOk result (Adds writer.old writer.new (members_tokens (error_members (entries_of error.now) status))) }
+{
+    object_of(alloc, writer, "error", error)?;
+    count_of(writer, "status", status)?;
+    writer.end_object()
+}
+
 /// The JSON of a refusal, a text of one line: whether the program is proved, what was asked, why
 /// there is no report, and the exit status.
 pub fn print_error(
@@ -58,8 +74,6 @@ pub fn print_error(
     ensures { IfOk result (λ text. text.items ≡ error_json (question_of asked.now) (entries_of error.now) status) }
 {
     let mut writer = opened(alloc, asked)?;
-    object_of(alloc, &mut writer, "error", error)?;
-    count_of(&mut writer, "status", status)?;
-    writer.end_object()?;
+    error_ended(alloc, &mut writer, error, status)?;
     ended(writer)
 }
