@@ -1,5 +1,5 @@
 -- The digits of a variable's code.
-use Rattle.std.proofs.Common.{◌≡◌, ℕ, zero, suc, ◌+◌, ◌/◌, ◌%◌, ◌<◌, ◌≤◌, List, [], ◌∷◌, ◌++◌, refl, arith, inl, inr, sym, ap, ◌∙◌, append_assoc}
+use Rattle.std.proofs.Common.{◌≡◌, ℕ, zero, suc, ◌+◌, ◌-◌, ◌*◌, ◌/◌, ◌%◌, ◌<◌, ◌≤◌, List, [], ◌∷◌, ◌++◌, refl, arith, inl, inr, sym, ap, ◌∙◌, append_assoc}
 use Rattle.std.proofs.lemmas.Bool.{cases_lt, lt-ltb, le-ltb}
 use Rattle.td_vcd.specs.Text.{code_within, code}
 
@@ -36,3 +36,24 @@ pub code-end : (whole before now : List ℕ) (rest digit : ℕ) → rest < 94 �
     → now ≡ before ++ digit ∷ [] → now ≡ whole
 code-end whole before now rest digit last is kept grown =
     grown ∙ ap (λ (d : ℕ). before ++ d ∷ []) is ∙ ap (λ (t : List ℕ). before ++ t) (sym (code-last rest last)) ∙ kept
+
+-- ---- read back
+
+-- the variable of a code
+abbrev pub code_value : List ℕ → ℕ
+code_value [] = 0
+code_value (digit ∷ others) = (digit - 33) + 94 * code_value others
+
+digit_first : (number rest : ℕ) → rest ≡ number / 94 → ((33 + number % 94) - 33) + 94 * rest ≡ number
+digit_first number rest is = omega (arith, is)
+
+within-value : (digits number : ℕ) → number < digits → code_value (code_within digits number) ≡ number
+within-value zero number low = absurd (omega arith)
+within-value (suc digits) number low = elim (cases_lt number 94) [
+  | inl last ↦ rw (lt-ltb number 94 last) (digit_first number 0 (omega (arith, last)))
+  | inr more ↦ rw (le-ltb number 94 more) (digit_first number _ (within-value digits (number / 94) (omega (arith, low, more))))
+]
+
+pub code-value : (number : ℕ) → code_value (code number) ≡ number
+unfolding code
+code-value number = within-value (suc number) number (omega arith)

@@ -4,7 +4,9 @@ pub mod Codes
 pub mod Moments
 pub mod Named
 pub mod Nets
+pub mod Numerals
 pub mod OneLine
+pub mod OneReading
 pub mod Parts
 pub mod Playing
 pub mod Rising

@@ -13,7 +13,7 @@ use Rattle.td_nets.specs.Netlist.{Name, Netlist}
 use Rattle.td_nets.specs.Printed.{printed, bit_text}
 use Rattle.td_nets.specs.Scales.{scale_text}
 use Rattle.td_vcd.specs.declared.events.Event.{Event}
-use Rattle.td_vcd.specs.Text.{Line, code_within, code, timescale, scope, dump_head, declaration, start_line, numbered, dump_begins, dump_ends, event_line, events_at, moment_lines, change_lines, events_from, dump_lines, rising, moment_of}
+use Rattle.td_vcd.specs.Text.{Line, code_within, code, numeral, timescale, scope, dump_head, declaration, start_line, numbered, dump_begins, dump_ends, event_line, events_at, moment_lines, change_lines, events_from, dump_lines, rising, moment_of}
 use Rattle.td_vcd.specs.Says.{IsOnOneLine, IsOneLine}
 
 both : {A : Type 0} (P : A → Type 0) (xs ys : List A) → AllByRecursion P xs → AllByRecursion P ys → AllByRecursion P (xs ++ ys)
@@ -54,6 +54,10 @@ number_fine : (n : ℕ) → IsOnOneLine (decimal n)
 unfolding digits
 number_fine n = onto 64 n [] tt
 
+pub numeral_fine : (n : ℕ) → IsOnOneLine (numeral n)
+unfolding numeral
+numeral_fine n = onto (suc n) n [] tt
+
 digits_fine : (count number : ℕ) → IsOnOneLine (code_within count number)
 digits_fine zero number = tt
 digits_fine (suc count) number = elim (cases_lt number 94) [
@@ -61,7 +65,7 @@ digits_fine (suc count) number = elim (cases_lt number 94) [
   | inr more ↦ rw (le-ltb number 94 more) (λ same. omega (arith, same), digits_fine count (number / 94))
 ]
 
-code_fine : (number : ℕ) → IsOnOneLine (code number)
+pub code_fine : (number : ℕ) → IsOnOneLine (code number)
 unfolding code
 code_fine number = digits_fine (suc number) number
 
@@ -92,10 +96,10 @@ scale_fine scale.Femtoseconds = by_look (codes "fs") refl
 
 timescale_fine : (unit : Step) → IsOneLine (timescale unit)
 timescale_fine unit =
-    join (((codes "timescale " ++ decimal unit.magnitude) ++ codes " ") ++ scale_text unit.scale) (codes " $end")
-    (join ((codes "timescale " ++ decimal unit.magnitude) ++ codes " ") (scale_text unit.scale)
-    (join (codes "timescale " ++ decimal unit.magnitude) (codes " ")
-    (join (codes "timescale ") (decimal unit.magnitude) (by_look (codes "timescale ") refl) (number_fine unit.magnitude)) (by_look (codes " ") refl))
+    join (((codes "timescale " ++ numeral unit.magnitude) ++ codes " ") ++ scale_text unit.scale) (codes " $end")
+    (join ((codes "timescale " ++ numeral unit.magnitude) ++ codes " ") (scale_text unit.scale)
+    (join (codes "timescale " ++ numeral unit.magnitude) (codes " ")
+    (join (codes "timescale ") (numeral unit.magnitude) (by_look (codes "timescale ") refl) (numeral_fine unit.magnitude)) (by_look (codes " ") refl))
     (scale_fine unit.scale)) (by_look (codes " $end") refl)
 
 scope_fine : (name : List ℕ) → IsOnOneLine name → IsOneLine (scope name)

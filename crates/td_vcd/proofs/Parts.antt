@@ -1,7 +1,6 @@
 -- What has gone out of a dump, part by part.
-use Rattle.std.proofs.Common.{◌≡◌, ℕ, List, ◌++◌, length, refl, sym, ap, ◌∙◌, arith}
+use Rattle.std.proofs.Common.{◌≡◌, ℕ, List, ◌++◌, length, refl, sym, ap, ◌∙◌}
 use Rattle.std.specs.Prelude.{codes}
-use Rattle.std.proofs.lemmas.Fmt.{decimal_digit}
 use Rattle.td_gates.specs.Wave.{Wave}
 use Rattle.td_nets.specs.Netlist.{Name, Netlist}
 use Rattle.td_circuit.specs.Numbering.{Numbered, nets, IsNumbering}
@@ -9,7 +8,7 @@ use Rattle.td_circuit.specs.NetValues.{net_wave}
 use Rattle.td_run.specs.Runs.{NetWaves}
 use Rattle.td_run.specs.Waves.{waves_of}
 use Rattle.td_vcd.specs.declared.events.Event.{Event}
-use Rattle.td_vcd.specs.Text.{Line, text_of, dump_head, numbered, declaration, start_line, dump_begins, events_from, change_lines, named_dump, variable_waves}
+use Rattle.td_vcd.specs.Text.{Line, numeral, text_of, dump_head, numbered, declaration, start_line, dump_begins, events_from, change_lines, named_dump, variable_waves}
 use Rattle.td_vcd.specs.Chosen.{names_of}
 use Rattle.td_vcd.specs.Walks.{AreVariables, lines_from, begins_text, body_text}
 use Rattle.td_vcd.specs.Writes.{dump_of}
@@ -17,7 +16,8 @@ use Rattle.td_vcd.proofs.Nets.{names_are, waves_are}
 use Rattle.td_vcd.proofs.Steps.{dump_parts}
 
 begins_is : text_of dump_begins ≡ begins_text
-begins_is = rw (decimal_digit 0 (omega arith)) refl
+unfolding numeral
+begins_is = refl
 
 -- the dump of variables with these names and waves
 text_is : (netlist : Netlist) (names : List Name) (waves : List Wave) (events : List Event)

@@ -1,6 +1,7 @@
 -- The text of waves as a value change dump (IEEE 1364-2005, clause 18).
-use Rattle.std.specs.Prelude.{ℕ, zero, suc, ◌+◌, ◌/◌, ◌%◌, List, [], ◌∷◌, ◌++◌, map, codes, decimal, None, nat_lt, ◌==◌, if◌then◌else◌}
+use Rattle.std.specs.Prelude.{ℕ, zero, suc, ◌+◌, ◌/◌, ◌%◌, List, [], ◌∷◌, ◌++◌, map, codes, false, None, nat_lt, ◌==◌, if◌then◌else◌}
 use Rattle.std.specs.List.{flat_map, filter}
+use Rattle.std.specs.Fmt.{digits_onto}
 use Rattle.td_gates.specs.declared.primitives.Level.{Level}
 use Rattle.td_gates.specs.declared.primitives.Level.TheVariants.{Zero, One, X}
 use Rattle.td_gates.specs.declared.timing.Change.{Change}
@@ -30,6 +31,10 @@ code_within (suc digits) number = (33 + number % 94) ∷ (if nat_lt number 94 th
 unfoldable pub code : ℕ → List ℕ
 code variable = code_within (suc variable) variable
 
+-- all decimal digits of a number (`decimal` of std gives the last 64)
+unfoldable pub numeral : ℕ → List ℕ
+numeral number = digits_onto (suc number) 10 false number []
+
 abbrev pub level_character : Level → ℕ
 level_character Zero = 48
 level_character One = 49
@@ -37,7 +42,7 @@ level_character X = 120
 
 abbrev pub line_text : Line → List ℕ
 line_text (Keyword words) = codes "$" ++ words
-line_text (Number number) = codes "#" ++ decimal number
+line_text (Number number) = codes "#" ++ numeral number
 line_text (Sets variable level) = level_character level ∷ code variable
 
 -- a line and its newline
@@ -51,7 +56,7 @@ text_of lines = flat_map ended lines
 
 -- how long a step takes
 abbrev pub timescale : Step → Line
-timescale unit = Keyword (codes "timescale " ++ decimal unit.magnitude ++ codes " " ++ scale_text unit.scale ++ codes " $end")
+timescale unit = Keyword (codes "timescale " ++ numeral unit.magnitude ++ codes " " ++ scale_text unit.scale ++ codes " $end")
 
 -- the module, by its printed name
 abbrev pub scope : List ℕ → Line

@@ -42,11 +42,11 @@ impl Model for Batch {
 }
 
 impl Batch {
-    ghost use Rattle.std.specs.Prelude.{◌≡◌, ◌++◌, ◌∷◌, [], OnOk, OnErr, decimal};
+    ghost use Rattle.std.specs.Prelude.{◌≡◌, ◌++◌, ◌∷◌, [], OnOk, OnErr};
     ghost use Rattle.td_text.specs.Output.{SentTo, Sent, Failed};
     ghost use Rattle.td_nets.specs.Views.{name_of};
     ghost use Rattle.td_nets.specs.Printed.{printed};
-    ghost use Rattle.td_vcd.specs.Text.{Number, Sets, code, ended, timescale, scope, declaration};
+    ghost use Rattle.td_vcd.specs.Text.{Number, Sets, code, numeral, ended, timescale, scope, declaration};
 
     /// An empty batch.
     pub fn new(alloc: Global) -> Batch
@@ -95,7 +95,7 @@ impl Batch {
 
     /// Appends a number in decimal digits.
     fn digits(&mut self, number: u64) -> Result<(), AllocError>
-        ensures { OnOk result (self.new ≡ self.old ++ decimal number) }
+        ensures { OnOk result (self.new ≡ self.old ++ numeral number) }
     {
         self.push(Buffer::new().format(number).as_bytes())
     }
