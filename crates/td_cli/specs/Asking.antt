@@ -8,6 +8,7 @@ use Rattle.td_inputs.specs.declared.scanning.Taken.{Taken}
 use Rattle.td_inputs.specs.Topics.{option_of}
 use Rattle.td_reading.specs.declared.reading.Reading.{Reading}
 use Rattle.td_reading.specs.declared.told.Told.{Told}
+use Rattle.td_checker.specs.Checks.{told_all}
 use Rattle.td_lines.specs.Asked.{Question}
 use Rattle.td_lines.specs.Said.{Entry}
 use Rattle.td_lines.specs.Values.{items_by, numbers_of}
@@ -56,19 +57,16 @@ output_entry true names = (codes "output", strings names) ∷ []
 abbrev pub reading_entries : Told → Reading → List Entry
 reading_entries told reading = default_entry (told.rise || told.fall) reading.default ++ output_entry told.outputs reading.outputs
 
-abbrev pub all_told : Told
-all_told = record { rise = true; fall = true; outputs = true }
-
 -- what a command is told of a reading: all, but for a check
 abbrev pub told_of : Command → Told
-told_of (command.Sim asked) = all_told
-told_of (command.Path asked) = all_told
-told_of (command.Bound asked) = all_told
-told_of (command.Worst asked) = all_told
-told_of (command.Parts asked) = all_told
-told_of (command.Join asked) = all_told
+told_of (command.Sim asked) = told_all
+told_of (command.Path asked) = told_all
+told_of (command.Bound asked) = told_all
+told_of (command.Worst asked) = told_all
+told_of (command.Parts asked) = told_all
+told_of (command.Join asked) = told_all
 told_of (command.Check asked) = asked.told
-told_of command.Info = all_told
+told_of command.Info = told_all
 
 -- an option and its word
 abbrev pub taken_words : Taken → List (List ℕ)
