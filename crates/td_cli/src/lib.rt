@@ -22,6 +22,7 @@ pub mod laws;
 mod lines;
 mod message;
 mod names;
+mod origin;
 mod outputs;
 mod pace;
 mod print;

@@ -18,6 +18,7 @@ use crate::fault::Fault;
 use crate::hint::{advise, ending_hint, fault_hint, refusal_hint, warn};
 use crate::judging::{judged, shows_progress};
 use crate::message::{fault_sentence, refusal_sentence, say, tell, tell_fault};
+use crate::origin::Origin;
 use crate::trouble::{Trouble, show_trouble};
 use crate::usage::tell_usage;
 use std::alloc::Global;
@@ -251,6 +252,7 @@ fn stop<O: Sink, E: Sink, A: Advice>(
     ensures shown { IsUnreported request.now result (O.output out.old) (O.output out.new) }
 {
     let trouble = Trouble {
+        origin: Origin::of_fault(fault),
         sentence: fault_sentence(alloc, fault),
         hint: fault_hint(alloc, fault, advice),
     };
@@ -292,6 +294,7 @@ fn refuse<O: Sink, E: Sink, A: Advice>(
         return stop(alloc, request, Fault::Unread(name), out, err, advice);
     }
     let trouble = Trouble {
+        origin: Origin::of_refusal(refusal),
         sentence: refusal_sentence(alloc, refusal),
         hint: refusal_hint(alloc, request, netlist, refusal),
     };

@@ -9,6 +9,7 @@ ghost use Rattle.td_cli.specs.Asking.{asked_of};
 ghost use Rattle.td_cli.specs.Carrying.{IsUnreported};
 
 use crate::asked::asked;
+use crate::origin::Origin;
 use crate::print::write;
 use std::alloc::{AllocError, Global};
 use td_answer::Status;
@@ -16,10 +17,11 @@ use td_lines::{Label, Said, Terms, Text, print_error};
 use td_request::{Form, Request};
 use td_text::Sink;
 
-/// Why there is no outcome: a sentence, which is a line, and what it means and what to do, where
-/// that is known.
+/// Why there is no outcome: what is at fault, a sentence, which is a line, and what it means and
+/// what to do, where that is known.
 #[derive(Drop)]
 pub(crate) struct Trouble {
+    pub(crate) origin: Origin,
     pub(crate) sentence: Result<Text, AllocError>,
     pub(crate) hint: Result<Text, AllocError>,
 }
@@ -36,9 +38,19 @@ fn message_of(line: &[u8]) -> &[u8] {
 }
 
 fn error_of(alloc: Global, trouble: Trouble) -> Result<Terms, AllocError> {
-    let sentence = trouble.sentence?;
-    let hint = trouble.hint?;
+    let Trouble {
+        origin,
+        sentence,
+        hint,
+    } = trouble;
+    let sentence = sentence?;
+    let hint = hint?;
     let mut error = Terms::new(alloc);
+    let kind = label(alloc, origin.kind.as_bytes())?;
+    error.add("kind", Said::Word(kind))?;
+    if let Some(line) = origin.line {
+        error.add("line", Said::Number(u64::from(line)))?;
+    }
     let message = label(alloc, message_of(sentence.bytes()))?;
     error.add("message", Said::Word(message))?;
     if !hint.bytes().is_empty() {

@@ -67,7 +67,7 @@ fn prints_an_error_as_json(rt: HostRuntime) -> Result<(), Fail> {
     assert_eq!(rt; refused.code, 2);
     let front = b"{\"proved\":true,\"command\":\"sim\",\"file\":\"inverter.v\",\
 \"question\":{\"default\":[1,1],\"output\":[],\"from\":\"00\",\"to\":\"1\",\"named\":[]},\
-\"error\":{\"message\":\"bad vector FROM\",\"hint\":\"";
+\"error\":{\"kind\":\"command\",\"message\":\"bad vector FROM\",\"hint\":\"";
     assert!(rt; refused.out.bytes().starts_with(front));
     assert!(rt; refused.out.bytes().ends_with(b"\"},\"status\":2}\n"));
     assert_eq!(rt;
