@@ -122,17 +122,17 @@ Refusals, statuses and hints are as without it.
   For more information, try '--help'.
   [2]
   $ tdelay sim $NETLISTS/inverter.v 0 11 --json
-  {"proved":true,"command":"sim","file":"$NETLISTS/inverter.v","question":{"default":[1,1],"output":[],"from":"0","to":"11","named":[]},"error":{"message":"bad vector TO","hint":"TO: 1 characters, one for each of a; got 2\n  help: write 0, 1 or x for each, the first character for the first input"},"status":2}
+  {"proved":true,"command":"sim","file":"$NETLISTS/inverter.v","question":{"default":[1,1],"output":[],"from":"0","to":"11","named":[]},"error":{"kind":"command","message":"bad vector TO","hint":"TO: 1 characters, one for each of a; got 2\n  help: write 0, 1 or x for each, the first character for the first input"},"status":2}
   tdelay: bad vector TO
   [2]
   $ tdelay sim $NETLISTS/inverter.v 0 11 --json --hints
-  {"proved":true,"command":"sim","file":"$NETLISTS/inverter.v","question":{"default":[1,1],"output":[],"from":"0","to":"11","named":[]},"error":{"message":"bad vector TO","hint":"TO: 1 characters, one for each of a; got 2\n  help: write 0, 1 or x for each, the first character for the first input"},"status":2}
+  {"proved":true,"command":"sim","file":"$NETLISTS/inverter.v","question":{"default":[1,1],"output":[],"from":"0","to":"11","named":[]},"error":{"kind":"command","message":"bad vector TO","hint":"TO: 1 characters, one for each of a; got 2\n  help: write 0, 1 or x for each, the first character for the first input"},"status":2}
   tdelay: bad vector TO
   TO: 1 characters, one for each of a; got 2
     help: write 0, 1 or x for each, the first character for the first input
   [2]
   $ tdelay info nowhere.v --json
-  {"proved":true,"command":"info","file":"nowhere.v","question":{"default":[1,1],"output":[]},"error":{"message":"cannot read nowhere.v","hint":"nowhere.v: there is no file of this name\n  help: look at the path, from the folder that the command runs in; - is standard input"},"status":5}
+  {"proved":true,"command":"info","file":"nowhere.v","question":{"default":[1,1],"output":[]},"error":{"kind":"file","message":"cannot read nowhere.v","hint":"nowhere.v: there is no file of this name\n  help: look at the path, from the folder that the command runs in; - is standard input"},"status":5}
   tdelay: cannot read nowhere.v
   [5]
   $ tdelay sim $NETLISTS/inverter.v 0 1 --vcd nowhere/out.vcd --json
@@ -143,11 +143,11 @@ Refusals, statuses and hints are as without it.
   tdelay: cannot write stdout
   [5]
   $ cp $NETLISTS/inverter.v mine.v; tdelay sim mine.v 0 1 --vcd mine.v --json
-  {"proved":true,"command":"sim","file":"mine.v","question":{"default":[1,1],"output":[],"from":"0","to":"1","named":[]},"error":{"message":"mine.v is mine.v","hint":"to write mine.v would overwrite mine.v, which this command reads or writes; nothing was done\n  help: give --cert or --vcd another name"},"status":2}
+  {"proved":true,"command":"sim","file":"mine.v","question":{"default":[1,1],"output":[],"from":"0","to":"1","named":[]},"error":{"kind":"command","message":"mine.v is mine.v","hint":"to write mine.v would overwrite mine.v, which this command reads or writes; nothing was done\n  help: give --cert or --vcd another name"},"status":2}
   tdelay: mine.v is mine.v
   [2]
   $ echo 'module t(a); input a; output y; endmodule' > bad.v; tdelay info bad.v --json
-  {"proved":true,"command":"info","file":"bad.v","question":{"default":[1,1],"output":[]},"error":{"message":"netlist fault 15 PortUndeclared at line 1","hint":"bad.v:1: a port without a direction, or a direction for a name that is no port\n    module t(a); input a; output y; endmodule\n  help: declare it, or list it among the ports"},"status":1}
+  {"proved":true,"command":"info","file":"bad.v","question":{"default":[1,1],"output":[]},"error":{"kind":"netlist","line":1,"message":"netlist fault 15 PortUndeclared at line 1","hint":"bad.v:1: a port without a direction, or a direction for a name that is no port\n    module t(a); input a; output y; endmodule\n  help: declare it, or list it among the ports"},"status":1}
   tdelay: netlist fault 15 PortUndeclared at line 1
   [1]
 

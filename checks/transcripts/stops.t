@@ -217,7 +217,7 @@ A run and a check have no outcome then. Nothing goes out, and no file is written
   tdelay: out of time
   [3]
   $ tdelay check $NETLISTS/c17.v c17.cert --seconds 0 --json
-  {"proved":true,"command":"check","file":"$NETLISTS/c17.v","question":{"certificate":"c17.cert"},"error":{"message":"out of time","hint":"the seconds were over before this was done\n  help: more --seconds, or none"},"status":3}
+  {"proved":true,"command":"check","file":"$NETLISTS/c17.v","question":{"certificate":"c17.cert"},"error":{"kind":"time","message":"out of time","hint":"the seconds were over before this was done\n  help: more --seconds, or none"},"status":3}
   tdelay: out of time
   [3]
   $ tdelay sim $NETLISTS/c17.v 00000 11111 --seconds 0 --quiet
