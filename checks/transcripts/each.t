@@ -229,7 +229,7 @@ Options that belong to one answer: the first of them is named, and no file is re
   tdelay: --each doesn't go together with --cert: write --output NAME in place of --each
   [2]
   $ tdelay worst two.v --each --outputs --json
-  {"proved":true,"command":"worst","file":"two.v","question":{"default":[1,1],"output":[],"named":[]},"error":{"message":"--each doesn't go together with --outputs: leave one of them out"},"status":2}
+  {"proved":true,"command":"worst","file":"two.v","question":{"default":[1,1],"output":[],"named":[]},"error":{"kind":"command","message":"--each doesn't go together with --outputs: leave one of them out"},"status":2}
   tdelay: --each doesn't go together with --outputs: leave one of them out
   [2]
   $ ls
