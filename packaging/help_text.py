@@ -2,8 +2,8 @@
 and the completions of shells (completions.py). Nothing here knows a command or an option of its
 own.
 
-A text of help has an introduction, a line `Usage:`, lists (`Commands:`, `Arguments:`, `Options:`),
-and notes. An entry of a list may go on on lines that are further in, as where help is wrapped.
+A text of help has an introduction, a line `Usage:`, lists (`Commands:`, `Arguments:`, `Options:`,
+and options under the headings of HEADINGS), and notes. An entry of a list may go on on lines that are further in, as where help is wrapped.
 """
 
 import re
@@ -11,7 +11,8 @@ import subprocess
 import sys
 from dataclasses import dataclass, field
 
-LISTS = ("Commands", "Arguments", "Options")
+HEADINGS = ("Question", "Effort", "Output")
+LISTS = {it: it for it in ("Commands", "Arguments", "Options")} | dict.fromkeys(HEADINGS, "Options")
 HEAD = {
     "Commands": re.compile(r" {2}(?P<name>[a-z][\w-]*)(?: {2,}(?P<text>.*))?$"),
     "Arguments": re.compile(
@@ -111,7 +112,7 @@ def parse(text):
         if line.startswith("Usage:") and place == "About":
             result.usage, place = line.removeprefix("Usage:").strip(), "Usage"
         elif place != "Notes" and heading and heading[1] in LISTS:
-            place = heading[1]
+            place = LISTS[heading[1]]
         elif place in LISTS and line and not line.startswith(" "):
             place = "Notes"
             notes.append(line)

@@ -29,12 +29,49 @@ impl<'a> Model for Arguments<'a> {
     ghost invariant = { λ arguments. All (λ arg. arg.global ≡ false) arguments.list.items };
 }
 
+/// The options that say what is asked.
+const QUESTION: [&str; 13] = [
+    "first",
+    "second",
+    "pin",
+    "hold",
+    "hold-input",
+    "keep",
+    "keep-file",
+    "flips",
+    "at",
+    "required",
+    "output",
+    "default-rise",
+    "default-fall",
+];
+
+/// The options that say how far a command goes.
+const EFFORT: [&str; 9] = [
+    "workers", "strategy", "budget", "seconds", "memory", "stop", "parts", "check", "no-check",
+];
+
+/// The heading under which help shows the option of this name.
+fn heading_of(id: &str) -> &'static str {
+    if QUESTION.contains(&id) {
+        "Question"
+    } else if EFFORT.contains(&id) {
+        "Effort"
+    } else {
+        "Output"
+    }
+}
+
 /// An option with a text, of the name by which it is asked for.
 pub(crate) fn option<'a>(alloc: Global, id: &'a str, value: &'a str, help: &'a str) -> Arg<'a>
     ensures rule { rule_of result ≡ option id.entry.now }
     ensures local { result.global ≡ false }
 {
-    Arg::new(alloc, id).long(id).value_name(value).help(help)
+    Arg::new(alloc, id)
+        .long(id)
+        .value_name(value)
+        .help(help)
+        .help_heading(heading_of(id))
 }
 
 /// A flag, of the name by which it is asked for.
@@ -46,6 +83,7 @@ pub(crate) fn flag<'a>(alloc: Global, id: &'a str, help: &'a str) -> Arg<'a>
         .long(id)
         .action(ArgAction::SetTrue)
         .help(help)
+        .help_heading(heading_of(id))
 }
 
 /// An option with a number in a range, and the number where it is left out.
@@ -176,7 +214,8 @@ impl<'a> Arguments<'a> {
     {
         let name = option(self.alloc, id, value, help)
             .value_parser(ValueParser::Names(names))
-            .default_value(left_out);
+            .default_value(left_out)
+            .hide_default_value(true);
         self.add(name)
     }
 

@@ -90,7 +90,7 @@ impl<'a> Commands<'a> {
         arguments.common()?;
         self.add(
             "path",
-            "Shows why an output changes last when it does: the changes that lead there from an input",
+            "Shows the changes that lead to the last change of an output",
             PATH_HELP,
             arguments,
         )
@@ -113,7 +113,7 @@ impl<'a> Commands<'a> {
         arguments.common()?;
         self.add(
             "bound",
-            "Bounds the delay of all pairs of vectors that two patterns allow",
+            "Bounds the delay of all pairs of vectors that patterns allow",
             BOUND_HELP,
             arguments,
         )
@@ -131,7 +131,7 @@ impl<'a> Commands<'a> {
         arguments.common()?;
         self.add(
             "worst",
-            "Searches for the worst delay of the admitted pairs of vectors, and a pair that has it",
+            "Searches for the worst delay, and a pair of vectors that has it",
             WORST_HELP,
             arguments,
         )
@@ -151,8 +151,7 @@ impl<'a> Commands<'a> {
         arguments.common()?;
         self.add(
             "parts",
-            "Cuts the question of `worst` into parts, and prints the options with which `worst`\n\
-answers each",
+            "Cuts the question of `worst` into parts, and prints the options of each",
             PARTS_HELP,
             arguments,
         )
@@ -201,8 +200,7 @@ answers each",
         arguments.common()?;
         self.add(
             "info",
-            "Prints what is in a netlist: its size, its depth, its delays, and its inputs in the order\n\
-of a vector's characters",
+            "Prints a netlist's size, depth and delays, its inputs and its outputs",
             INFO_HELP,
             arguments,
         )

@@ -31,14 +31,16 @@ impl<'a> Arguments<'a> {
             1,
             Delay::MAX,
             "1",
-            "Rise delay in steps of gates without a delay",
+            "Rise delay in steps of gates without\n\
+a delay",
         )?;
         self.number(
             "default-fall",
             1,
             Delay::MAX,
             "1",
-            "Fall delay in steps of gates without a delay",
+            "Fall delay in steps of gates without\n\
+a delay",
         )
     }
 
@@ -46,7 +48,8 @@ impl<'a> Arguments<'a> {
     fn quiet(&mut self) -> Result<(), AllocError>
         ensures { OnOk result (TellsRule (with_letter quiet_letter (flag (codes "quiet"))) self.old self.new) }
     {
-        let help = "Prints no report: the exit status shows how the command ended";
+        let help = "Prints no report: the exit status shows how the\n\
+command ended";
         let quiet = flag(self.alloc, "quiet", help);
         self.add(quiet.short('q'))
     }
@@ -59,13 +62,13 @@ impl<'a> Arguments<'a> {
         self.default_delay()?;
         self.flag(
             "hints",
-            "After the line of a refusal, prints to standard error what it means and\n\
-what to do, as at a terminal",
+            "After the line of a refusal, prints to standard\n\
+error what it means and what to do, as at a terminal",
         )?;
         self.flag(
             "json",
-            "Prints the report as one JSON object, which has the keys of the\n\
-report's lines",
+            "Prints the report as one JSON object, which has the\n\
+keys of the report's lines",
         )?;
         self.quiet()
     }
@@ -77,9 +80,10 @@ report's lines",
         self.option(
             "at",
             "TIMES",
-            "When each input takes its second level: a number of steps for each in\n\
-order, separated by commas; all 0 if left out. Or NAME=T, the\n\
-time of the input of this name, as often as needed",
+            "When each input takes its second level: a number of\n\
+steps for each in order, separated by commas; all 0\n\
+if left out. Or NAME=T, the time of the input of\n\
+this name, as often as needed",
         )
     }
 
@@ -90,7 +94,8 @@ time of the input of this name, as often as needed",
         self.option(
             "vcd",
             "OUT",
-            "Writes the waves of the pair to this file, as a value change dump",
+            "Writes the waves of the pair to this file, as a\n\
+value change dump",
         )
     }
 
@@ -137,28 +142,30 @@ time of the input of this name, as often as needed",
     {
         self.flag(
             "each",
-            "Asks about every output by itself, one after another, and prints a\n\
-line for each: its worst delay, and its bound by edges",
+            "Asks about every output by itself, one after\n\
+another, and prints a line for each: its worst\n\
+delay, and its bound by edges",
         )?;
         self.flag(
             "changes",
-            "With --each: also the latest rise and the latest fall of the output,\n\
-and whether it can glitch",
+            "With --each: also the latest rise and the latest\n\
+fall of the output, and whether it can glitch",
         )?;
         self.flag(
             "figures",
-            "With --each --changes: also how late the output can glitch",
+            "With --each --changes: also how late the output can\n\
+glitch",
         )?;
         self.flag(
             "vectors",
-            "With --each: also a pair of vectors that has the worst delay, or the\n\
-lower figure",
+            "With --each: also a pair of vectors that has the\n\
+worst delay, or the lower figure",
         )?;
         self.flag(
             "hazards",
-            "Asks of every output, one after another, whether it can glitch where it\n\
-settles at 0 under both vectors, and where at 1, and prints a line for\n\
-each",
+            "Asks of every output, one after another, whether it\n\
+can glitch where it settles at 0 under both vectors,\n\
+and where at 1, and prints a line for each",
         )
     }
 
@@ -169,13 +176,14 @@ each",
         self.file()?;
         self.needed(
             "FROM",
-            "The first vector: 0, 1 or x for each input in the order that `info`\n\
-shows, or `none` if there are no inputs",
+            "The first vector: 0, 1 or x for each input in the\n\
+order that `info` shows, or `none` if there are no\n\
+inputs",
         )?;
         self.needed(
             "TO",
-            "The second vector, which the inputs take from time 0 or those of\n\
---at on",
+            "The second vector, which the inputs take from time 0\n\
+or those of --at on",
         )
     }
 
@@ -186,21 +194,21 @@ shows, or `none` if there are no inputs",
         self.option(
             "first",
             "TRITS",
-            "The first vector: 0, 1 or . (free) for each input in the order that\n\
-`info` shows; all free if left out",
+            "The first vector: 0, 1 or . (free) for each input in\n\
+the order that `info` shows; all free if left out",
         )?;
         self.option(
             "second",
             "TRITS",
-            "The second vector, which the inputs take from time 0 or those of\n\
---at on",
+            "The second vector, which the inputs take from time 0\n\
+or those of --at on",
         )?;
         self.named(
             "pin",
             "NAME=VALUE",
-            "Both vectors have this level, 0 or 1, at the input of this name; `.`\n\
-leaves it free. Of a vector the value is a number, as 8'hff. Any\n\
-number of times",
+            "Both vectors have this level, 0 or 1, at the input\n\
+of this name; `.` leaves it free. Of a vector the\n\
+value is a number, as 8'hff. Any number of times",
         )
     }
 
@@ -210,8 +218,8 @@ number of times",
     {
         self.flag(
             "edges",
-            "Bounds by edges too, each net's rise and fall apart (e), and by edges\n\
-and possible levels at once (n)",
+            "Bounds by edges too, each net's rise and fall apart\n\
+(e), and by edges and possible levels at once (n)",
         )
     }
 
@@ -221,8 +229,8 @@ and possible levels at once (n)",
     {
         self.flag(
             "earliest",
-            "The time before which no pair changes an output, by edges; none if no\n\
-pair changes one",
+            "The time before which no pair changes an output, by\n\
+edges; none if no pair changes one",
         )
     }
 
@@ -233,19 +241,20 @@ pair changes one",
     {
         self.flag(
             "path",
-            "After the other lines, the changes that lead to the last change of the\n\
-given pair, as `path` prints them",
+            "After the other lines, the changes that lead to the\n\
+last change of the given pair, as `path` prints them",
         )?;
         self.flag(
             "progress",
-            "Writes to standard error how far the search is, each time that the\n\
-nodes handled pass 1, 2, 5, 10, 20, .. thousand, and every ten seconds;\n\
-with --each, each output as it is begun, and its line once it is found",
+            "Writes to standard error how far the search is, each\n\
+time that the nodes handled pass 1, 2, 5, 10, 20, ..\n\
+thousand, and every ten seconds; with --each, each\n\
+output as it is begun, and its line once it is found",
         )?;
         self.flag(
             "verbose",
-            "After the nodes, how many units of work searches by spans took; always\n\
-with --json",
+            "After the nodes, how many units of work searches by\n\
+spans took; always with --json",
         )?;
         self.outputs(LATEST_HELP)
     }
@@ -257,14 +266,14 @@ with --json",
         self.option(
             "hold",
             "MASK",
-            "The inputs whose two levels are the same: = (held) or . for each in\n\
-order; none held if left out",
+            "The inputs whose two levels are the same: = (held)\n\
+or . for each in order; none held if left out",
         )?;
         self.named(
             "hold-input",
             "NAME",
-            "The two levels of the input of this name are the same. Any number of\n\
-times",
+            "The two levels of the input of this name are the\n\
+same. Any number of times",
         )
     }
 
@@ -274,8 +283,8 @@ times",
     {
         self.count(
             "flips",
-            "The most inputs whose two levels differ; any number of them if left\n\
-out",
+            "The most inputs whose two levels differ; any number\n\
+of them if left out",
         )
     }
 
@@ -295,15 +304,16 @@ out",
         self.named(
             "keep",
             "NET=FS",
-            "Admits only pairs under which the net of this name settles at F under\n\
-the first vector and at S under the second, each 0, 1 or . (either); with\n\
-NET==, at the same level under both. Any number of times",
+            "Admits only pairs under which the net of this name\n\
+settles at F under the first vector and at S under\n\
+the second, each 0, 1 or . (either); with NET==, at\n\
+the same level under both. Any number of times",
         )?;
         self.option(
             "keep-file",
             "FILE",
-            "A file with more conditions as of --keep, a line for each: NET FS or\n\
-NET ==; `#` begins a comment",
+            "A file with more conditions as of --keep, a line for\n\
+each: NET FS or NET ==; `#` begins a comment",
         )?;
         self.flips()
     }
@@ -317,12 +327,13 @@ NET ==; `#` begins a comment",
             "NAME",
             names,
             "auto",
-            "How the search goes. `least` and `lead` split cubes of pairs; `lead`\n\
-climbs to a first pair and bounds by edges. `refute` asks a solver how\n\
-long nets keep their levels. Certificates of `lead` and `refute` are of\n\
-version 4. `auto` is a short `least`, a short `refute`, then `lead` and\n\
-`refute` by turns, until one of\n\
-them ends",
+            "How the search goes. `least` and `lead` split cubes\n\
+of pairs; `lead` climbs to a first pair and bounds\n\
+by edges. `refute` asks a solver how long nets keep\n\
+their levels. Certificates of `lead` and `refute` are\n\
+of version 4. `auto`, if left out, is a short\n\
+`least`, a short `refute`, then `lead` and `refute`\n\
+by turns, until one of them ends\n",
         )
     }
 
@@ -354,13 +365,13 @@ them ends",
     {
         self.required(REQUIRED_HELP)?;
         self.certificate_out(
-            "Writes the certificate of an exact answer to this file, or of whether\n\
---required is met",
+            "Writes the certificate of an exact answer to this\n\
+file, or of whether --required is met",
         )?;
         self.flag(
             "cert-between",
-            "With --cert, an answer that stays open has a certificate of both\n\
-figures",
+            "With --cert, an answer that stays open has a\n\
+certificate of both figures",
         )
     }
 
@@ -373,20 +384,22 @@ figures",
             0,
             MOST_NODES,
             "1000000",
-            "The most nodes of trees of cubes that are handled, and the most work\n\
-of `refute`, in units",
+            "The most nodes of trees of cubes that are handled,\n\
+and the most work of `refute`, in\n\
+units",
         )?;
         self.seconds()?;
         self.count(
             "memory",
-            "The search ends before its search by spans takes about this much\n\
-memory, in MiB; what it leaves open then lies between two figures",
+            "The search ends before its search by spans takes\n\
+about this much memory, in MiB; what it leaves open\n\
+then lies between two figures",
         )?;
         self.option(
             "stop",
             "FILE",
-            "Ends the search as soon as a file of this name is there; the answer\n\
-then lies between two figures",
+            "Ends the search as soon as a file of this name is\n\
+there; the answer then lies between two figures",
         )
     }
 
@@ -418,7 +431,8 @@ then lies between two figures",
             "parts",
             1,
             MOST_PARTS,
-            "How many parts the question is cut into, from 1 to 65536",
+            "How many parts the question is cut into, from 1 to\n\
+65536",
         )
     }
 
@@ -429,24 +443,29 @@ then lies between two figures",
     {
         self.needed_words(
             "CERT",
-            "The certificates of the parts, each a path, or `-` or `stdin` for\n\
-standard input",
+            "The certificates of the parts, each a path, or `-`\n\
+or `stdin` for standard input",
         )?;
         self.count(
             "required",
-            "Whether all outputs settle by this moment, in steps. Status 0 where\n\
-they do, 6 where a pair is later, 3 where it stays open",
+            "Whether all outputs settle by this moment, in steps.\n\
+Status 0 where they do, 6 where a pair is later, 3\n\
+where it stays open",
         )?;
-        self.certificate_out("Writes the certificate of the whole question to this file")?;
+        self.certificate_out(
+            "Writes the certificate of the whole question to this\n\
+file",
+        )?;
         self.flag(
             "check",
-            "Checks the certificate of each part before it is joined, as `check`\n\
-does; so it is without this too",
+            "Checks the certificate of each part before it is\n\
+joined, as `check` does; so it is without this too",
         )?;
         self.flag(
             "no-check",
-            "Joins certificates that aren't checked, which is quicker: the report\n\
-says `unchecked T` in place of `exact T`",
+            "Joins certificates that aren't checked, which is\n\
+quicker: the report says `unchecked T` in place of\n\
+`exact T`",
         )
     }
 
