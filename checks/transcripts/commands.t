@@ -7,15 +7,13 @@ Help and the version go to standard output. A line with a dot alone stands for a
   .
   Commands:
     sim    Simulates one pair of vectors: when each output changes last
-    path   Shows why an output changes last when it does: the changes that lead there from an input
-    bound  Bounds the delay of all pairs of vectors that two patterns allow
-    worst  Searches for the worst delay of the admitted pairs of vectors, and a pair that has it
-    parts  Cuts the question of `worst` into parts, and prints the options with which `worst`
-           answers each
+    path   Shows the changes that lead to the last change of an output
+    bound  Bounds the delay of all pairs of vectors that patterns allow
+    worst  Searches for the worst delay, and a pair of vectors that has it
+    parts  Cuts the question of `worst` into parts, and prints the options of each
     join   Joins the certificates of a question's parts into one of the whole question
     check  Checks the certificate of a worst delay by the netlist alone, whoever wrote it
-    info   Prints what is in a netlist: its size, its depth, its delays, and its inputs in the order
-           of a vector's characters
+    info   Prints a netlist's size, depth and delays, its inputs and its outputs
     help   Print this message or the help of the given subcommand(s)
   .
   Options:
@@ -33,20 +31,23 @@ Help and the version go to standard output. A line with a dot alone stands for a
     tdelay info c17.v
   .
   A vector has a character for each input, in the order of the module's port list,
-  and of a port of several bits from its left number to its right one. `info` shows
-  that order, a line for each input: `input 0 N1` is that of a vector's first character.
-  FILE may be `-` for standard input.
+  and of a port of several bits from its left number to its right one. `info`
+  shows that order, a line for each input: `input 0 N1` is that of a vector's
+  first character. FILE may be `-` for standard input.
   Standard output has one figure a line, a key and its value: docs/MANUAL.md.
   With `--json` it has one JSON object with these keys.
-  With `--hints`, or at a terminal, a refused command also prints to standard error what to do.
+  With `--hints`, or at a terminal, a refused command also prints to standard
+  error what to do.
   .
   Exit status:
     0  done
-    1  the text of the netlist or of a certificate is refused, or no pair is admitted
+    1  the text of the netlist or of a certificate is refused, or no pair is
+       admitted
     2  the command line is bad, or a vector on it
     3  the search was cut short: the worst delay lies between two figures
     4  a certificate is refused, or certificates can't be joined
     5  a device failed, or memory ran out
+    6  a pair is later than the required moment
   $ tdelay sim --help | sed 's/^$/./'
   Simulates one pair of vectors: when each output changes last
   .
@@ -54,31 +55,45 @@ Help and the version go to standard output. A line with a dot alone stands for a
   .
   Arguments:
     <FILE>  The netlist, a path, or `-` or `stdin` for standard input
-    <FROM>  The first vector: 0, 1 or x for each input in the order that `info`
-            shows, or `none` if there are no inputs
-    <TO>    The second vector, which the inputs take from time 0 or those of
-            --at on
+    <FROM>  The first vector: 0, 1 or x for each input in the
+            order that `info` shows, or `none` if there are no
+            inputs
+    <TO>    The second vector, which the inputs take from time 0
+            or those of --at on
   .
   Options:
-        --at <TIMES>        When each input takes its second level: a number of steps for each in
-                            order, separated by commas; all 0 if left out. Or NAME=T, the
-                            time of the input of this name, as often as needed
-        --vcd <OUT>         Writes the waves of the pair to this file, as a value change dump
-        --net <NAME>        With --vcd: writes the waves of the net of this name alone, as `info` or
-                            the netlist names it. Any number of times: of these, in this order
-        --outputs           After the other lines, which output changes last, the first of
-                            several: `output NAME`
-        --seconds <N>       Ends the whole run, tables too, after this many seconds of the clock.
-                            What `worst` leaves open then lies between two figures; `sim`, `path` and
-                            `check` end with status 3 and print nothing
-        --default-rise <N>  Rise delay in steps of gates without a delay [default: 1]
-        --default-fall <N>  Fall delay in steps of gates without a delay [default: 1]
-        --hints             After the line of a refusal, prints to standard error what it means and
-                            what to do, as at a terminal
-        --json              Prints the report as one JSON object, which has the keys of the
-                            report's lines
-    -q, --quiet             Prints no report: the exit status shows how the command ended
-    -h, --help              Print help
+    -h, --help  Print help
+  .
+  Question:
+        --at <TIMES>        When each input takes its second level: a number of
+                            steps for each in order, separated by commas; all 0
+                            if left out. Or NAME=T, the time of the input of
+                            this name, as often as needed
+        --default-rise <N>  Rise delay in steps of gates without
+                            a delay [default: 1]
+        --default-fall <N>  Fall delay in steps of gates without
+                            a delay [default: 1]
+  .
+  Output:
+        --vcd <OUT>   Writes the waves of the pair to this file, as a
+                      value change dump
+        --net <NAME>  With --vcd: writes the waves of the net of this name
+                      alone, as `info` or the netlist names it. Any number
+                      of times: of these, in this order
+        --outputs     After the other lines, which output changes last,
+                      the first of several: `output NAME`
+        --hints       After the line of a refusal, prints to standard
+                      error what it means and what to do, as at a terminal
+        --json        Prints the report as one JSON object, which has the
+                      keys of the report's lines
+    -q, --quiet       Prints no report: the exit status shows how the
+                      command ended
+  .
+  Effort:
+        --seconds <N>  Ends the whole run, tables too, after this many
+                       seconds of the clock. What `worst` leaves open then
+                       lies between two figures; `sim`, `path` and `check`
+                       end with status 3 and print nothing
   .
   Example:
     tdelay sim c17.v 00000 11111 --vcd c17.vcd
