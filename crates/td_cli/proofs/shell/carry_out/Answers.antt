@@ -1,5 +1,9 @@
-use Rattle.td_cli.proofs.Ending.{carried, refused, texts_held}
+use Rattle.td_cli.proofs.Ending.{carried, refused, stopped, texts_held}
 use Rattle.td_cli.proofs.shell.carry_out.Goals as goal
+
+pub returns-in-Err : goal.returns-in-Err
+returns-in-Err g c =
+    stopped (g.F.Files.disk c.args.files.now) c.args.request.now c.in-Err.fault _ _ _ c.in-Err.ensures.fault c.stop.ensures.shown c.stop.ensures.ends
 
 pub returns-in-Ok-found : goal.returns-in-Ok-found
 returns-in-Ok-found g c =

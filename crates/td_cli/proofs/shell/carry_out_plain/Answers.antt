@@ -1,0 +1,10 @@
+use Rattle.td_cli.proofs.Ending.{refused, texts_held}
+use Rattle.td_cli.proofs.shell.carry_out_plain.Goals as goal
+
+pub returns : goal.returns
+returns g c =
+    let disk = g.F.Files.disk c.args.files.now in
+    refused disk c.args.request.now c.texts-texts.result c.in-Err-answer_plain.refusal _ _ _
+    (texts_held disk.holds c.args.request.now c.in-Ok.bytes c.texts-texts.result c.in-Ok.ensures.held
+    c.texts-texts.ensures.netlist c.texts-texts.ensures.certificates c.texts-texts.ensures.keep)
+    c.in-Err-answer_plain.ensures.refusal c.refuse.ensures.shown c.refuse.ensures.ends
