@@ -9,8 +9,8 @@ use std::marker::Model;
 use td_domain::{Domain, Trit};
 use td_gates::{Delay, Kind};
 
-/// Whether a known bit reaches a net. What is equal says nothing of the number: of the inputs and
-/// gates that one scratch evaluated, this one was the first, the second and so on.
+/// Whether a known bit reaches a net, and which evaluation of a scratch said so: the first of an
+/// input or a gate has the number 1. Signals are the same whatever their numbers.
 #[derive(Drop)]
 pub struct Counted {
     is_reached: bool,
