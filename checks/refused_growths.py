@@ -318,10 +318,18 @@ def try_growth(tested, refuser, command, first, last):
     return how
 
 
+def in_turn(cases):
+    """The cases of each command in their order, a command's first before another's second."""
+    counts, turns = Counter(), {}
+    for it in cases:
+        turns[it] = counts[it[0]] = counts[it[0]] + 1
+    return sorted(cases, key=turns.get)
+
+
 def chosen(tested, commands):
-    """The growths that are tried, by commands: those after roots, to a half of all, and a random
-    choice of the others, as many of each command; all where as many are asked for. Those of
-    searches with conditions come first, as they are few.
+    """The growths that are tried, by commands: those after roots, to a half of all, and others, a
+    random choice with as many of each command; all where as many are asked for. Those of searches
+    with conditions come first, as they are few.
     """
     every = [
         (place, first, last)
@@ -330,14 +338,10 @@ def chosen(tested, commands):
         for last in (first, NEVER)
     ]
     tested.random.shuffle(every)
-    rooted = [it for it in every if it[1] == it[2] and it[1] in commands[it[0]].rooted]
+    rooted = in_turn([it for it in every if it[1] == it[2] and it[1] in commands[it[0]].rooted])
     rooted.sort(key=lambda it: "--keep" not in commands[it[0]].words)
     rooted = set(rooted[: tested.most // 2])
-    others = [it for it in every if it not in rooted]
-    counts, turns = Counter(), {}
-    for it in others:
-        turns[it] = counts[it[0]] = counts[it[0]] + 1
-    others.sort(key=turns.get)
+    others = in_turn([it for it in every if it not in rooted])
     return sorted([*rooted, *others[: tested.most - len(rooted)]])
 
 
