@@ -16,8 +16,8 @@ verdict.
 
 Each case is a refused growth, or all from one on. A random choice is tried, half of it after roots,
 the first ones after the root of a search with conditions among them, and as many of each command
-else. Of 100 cases 5 at least are
-searches of which the root was known, and 25 out of memory. It needs a C compiler, `cc`.
+else. Of 100 cases 5 at least are searches of which the root was known, and 25 out of memory. It
+needs a C compiler, `cc`.
 """
 
 import json
