@@ -92,7 +92,8 @@ impl Tree {
             parent: None,
             sides: None,
             lemma: None,
-        })
+        })?;
+        Ok(())
     }
 
     /// Whether a cube is in a state.
