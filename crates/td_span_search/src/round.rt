@@ -204,9 +204,9 @@ impl<'a> Team<'a> {
             ..
         } = mem::replace(&mut worker.report, Report::none(self.alloc));
         let steps = Steps::of(self.alloc, &mut worker.search);
-        let explanations =
-            self.log
-                .take_in(&mut worker.names, &worker.search.meanings, steps)?;
+        let explanations = self
+            .log
+            .take_in(&mut worker.names, &worker.search.meanings, steps)?;
         for lemma in &explanations {
             merged.told.push(Told {
                 lemma: *lemma,
