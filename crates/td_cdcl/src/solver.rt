@@ -20,9 +20,11 @@ const PROPAGATIONS_OF_A_UNIT: u64 = 1000;
 // So many words of 4 bytes a variable takes, about.
 const WORDS_OF_A_VARIABLE: u64 = 48;
 // A lemma that other solvers are told has no more glue, and no more literals.
-const TOLD_GLUE: u32 = 2;
+const TOLD_GLUE: u32 = 10;
 
-const TOLD_LITERALS: usize = 8;
+const TOLD_LITERALS: usize = 60;
+// What another solver has learned stays where it is used, as a clause with this glue does.
+const GLUE_OF_HEARD: u32 = 10;
 
 /// Clauses over variables, to which more may be added between questions. A question asks whether
 /// all clauses and some assumptions can be true. What is learned for one serves later ones.
@@ -43,7 +45,7 @@ pub struct Solver {
     conflicts: u64,
     // Questions stay open once so many watches were looked at.
     pause: u64,
-    // The short lemmas that were learned, where they are kept.
+    // The lemmas for other solvers that were learned, where they are kept.
     told: Option<Vec<ClauseNumber>>,
     // The assumptions that the trail begins with.
     assumed: Vec<Literal>,
@@ -189,8 +191,8 @@ impl Solver {
         mem::replace(&mut self.proof, rest)
     }
 
-    /// The numbers of the short lemmas that were learned since the last call, none at the first
-    /// one. They are lemmas that may serve other solvers of the same clauses.
+    /// The numbers of the lemmas with little glue that were learned since the last call, none at
+    /// the first one. They may serve other solvers of the same clauses.
     pub fn take_told(&mut self) -> Vec<ClauseNumber> {
         let none = Some(Vec::new(self.alloc));
         match mem::replace(&mut self.told, none) {
@@ -204,12 +206,20 @@ impl Solver {
     /// any more, but for its proof.
     pub fn add(&mut self, clause: &[Literal]) -> Result<ClauseNumber, AllocError> {
         let number = self.proof.give(clause)?;
-        self.take_in(number)?;
+        self.take_in(number, None)?;
         Ok(number)
     }
 
-    // Takes a clause of the proof in.
-    fn take_in(&mut self, number: ClauseNumber) -> Result<(), AllocError> {
+    /// Adds a lemma that another solver has learned, likewise. It may be removed like one of its
+    /// own.
+    pub fn hear(&mut self, lemma: &[Literal]) -> Result<ClauseNumber, AllocError> {
+        let number = self.proof.give(lemma)?;
+        self.take_in(number, Some(GLUE_OF_HEARD))?;
+        Ok(number)
+    }
+
+    // Takes a clause of the proof in, one with glue as learned.
+    fn take_in(&mut self, number: ClauseNumber, glue: Option<u32>) -> Result<(), AllocError> {
         if self.empty.is_some() {
             return Ok(());
         }
@@ -221,11 +231,20 @@ impl Solver {
             self.put_latest_first();
             let second = read(&self.literals, 1, 0);
             if !self.is_false_for_good(second) {
-                return self.attach_live(number);
+                return self.attach_live(number, glue);
             }
         }
         self.back(0);
-        self.take_in_at_root(number)
+        self.take_in_at_root(number, glue)
+    }
+
+    // Attaches the copied clause.
+    fn attach(&mut self, number: ClauseNumber, glue: Option<u32>) -> Result<Clause, AllocError> {
+        let clause = self.board.attach(number, &self.literals, glue)?;
+        if glue.is_some() {
+            self.learned.push(clause)?;
+        }
+        Ok(clause)
     }
 
     // Copies the literals of a clause, each once.
@@ -281,18 +300,18 @@ impl Solver {
 
     // Attaches the copied clause, of which the second literal isn't false for good, and goes back
     // as far as it wants that.
-    fn attach_live(&mut self, number: ClauseNumber) -> Result<(), AllocError> {
+    fn attach_live(&mut self, number: ClauseNumber, glue: Option<u32>) -> Result<(), AllocError> {
         let first = read(&self.literals, 0, 0);
         let second = read(&self.literals, 1, 0);
         if self.board.trail.value(second) != Value::False {
-            self.board.attach(number, &self.literals, None)?;
+            self.attach(number, glue)?;
             return Ok(());
         }
         let level = self.board.trail.level_of(place_of(second));
         match self.board.trail.value(first) {
             Value::Open => {
                 self.back(level);
-                let clause = self.board.attach(number, &self.literals, None)?;
+                let clause = self.attach(number, glue)?;
                 self.board.trail.assign(first, Some(clause));
                 return Ok(());
             }
@@ -303,17 +322,21 @@ impl Solver {
             }
             Value::False => self.back(level.saturating_sub(1)),
         }
-        self.board.attach(number, &self.literals, None)?;
+        self.attach(number, glue)?;
         Ok(())
     }
 
     // Takes in the copied clause at level 0.
-    fn take_in_at_root(&mut self, number: ClauseNumber) -> Result<(), AllocError> {
+    fn take_in_at_root(
+        &mut self,
+        number: ClauseNumber,
+        glue: Option<u32>,
+    ) -> Result<(), AllocError> {
         match self.front_open() {
             0 => self.conclude(number),
             1 => self.take_in_unit(number),
             _ => {
-                self.board.attach(number, &self.literals, None)?;
+                self.attach(number, glue)?;
                 Ok(())
             }
         }
@@ -655,7 +678,7 @@ impl Solver {
             .proof
             .learn(self.analysis.clause(), self.analysis.hints())?;
         self.back(0);
-        self.take_in(lemma)?;
+        self.take_in(lemma, None)?;
         Ok(lemma)
     }
 
