@@ -15,10 +15,12 @@ gives its verdict, of a certificate with a leaf by spans too, or is out of memor
 verdict.
 
 Each case is a refused growth, or all from one on. A random choice is tried, half of it after roots,
-the first ones after the root of a search with conditions among them. Of 100 cases 5 at least are
-searches of which the root was known, and 25 out of memory. It needs a C compiler, `cc`.
+the first ones after the root of a search with conditions among them, and as many of each command
+else. Of 100 cases 5 at least are searches of which the root was known, and 25 out of memory. It
+needs a C compiler, `cc`.
 """
 
+import json
 import os
 import subprocess
 import sys
@@ -50,6 +52,7 @@ CERTIFICATES = {
     "one.cert": ["met.v", "--first", "1."],
     "n22.cert": ["c17.v", "--output", "N22"],
     "refuted.cert": ["met.v", "--strategy", "refute"],
+    "open.cert": ["met.v", "--budget", "2", "--cert-between"],
 }
 ROOTED = [
     ["worst", netlist, "--workers", workers, "--budget", "10000"]
@@ -103,6 +106,18 @@ OTHERS = [
     ["join", "met.v", "zero.cert", "one.cert"],
     ["join", "met.v", "few.cert", "--flips", "1", "--at", "0,2"],
     ["info", "c17.v"],
+    ["info", "c17.v", "--json"],
+    ["sim", "c17.v", "01010", "01110", "--vcd", "out.vcd", "--net", "N16", "--json"],
+    ["path", "c17.v", "01010", "01110", "--output", "N22", "--seconds", "600", "--json"],
+    ["bound", "met.v", "--hold-input", "a", "--required", "3", "--json"],
+    ["check", "met.v", "met.cert", "--seconds", "600", "--json"],
+    ["check", "met.v", "open.cert"],
+    ["join", "met.v", "zero.cert", "one.cert", "--required", "3", "--json"],
+    ["parts", "met.v", "--parts", "3", "--hold", ".=", "--flips", "1", "--required", "3"],
+    ["worst", "met.v", "--path", "--verbose", "--required", "3", "--memory", "600"],
+    ["worst", "lost.v", "--strategy", "lead", "--stop", "never", "--progress"],
+    ["worst", "slow.v", "--each", "--changes", "--figures", "--vectors"],
+    ["worst", "c17.v", "--hazards"],
 ]
 
 # How a run ended, and what it wrote. The growths are how many it asked for.
@@ -149,7 +164,7 @@ def make_files(tested):
     tested.write("kept", "b 0. # conditions\n\nb ==\n")
     for name, words in CERTIFICATES.items():
         done = tested.run("worst", *words, "--cert", name)
-        if done.status != 0 or tested.read(name) is None:
+        if done.status not in (0, 3) or tested.read(name) is None:
             raise RuntimeError(f"worst {words}: {done}, no certificate")
 
 
@@ -176,7 +191,7 @@ def command_of(refuser, words, is_rooted):
     if ample.status not in (0, 3) or not ample.out or growths == 0:
         raise RuntimeError(f"{' '.join(words)}: {ample}, {growths} growths")
     worst = None
-    if words[0] == "worst" and "--each" not in words:
+    if words[0] == "worst" and not is_table(words):
         worst = reports.figures_of(refuser.run(with_budget(words, None))[0].out).low
     rooted = rooted_of(refuser, words) if is_rooted else range(0)
     if words[0] == "worst" and "--keep" in words:
@@ -205,10 +220,39 @@ def output_of(words):
     return words[at : at + 2]
 
 
+def says_memory(words, out):
+    """Whether a report as JSON says that memory ran out."""
+    if "--json" not in words:
+        return False
+    said = json.loads(out)
+    return said["error"]["kind"] == "memory" and said["status"] == 5
+
+
+def is_table(words):
+    """Whether a search reports a row for each output."""
+    return "--each" in words or "--hazards" in words
+
+
+def is_open(row, wanted):
+    """Whether a row of hazards is open that has an answer with memory enough."""
+    return row.startswith("hazard ") and row.split() == [*wanted.split()[:3], "open"]
+
+
+def how_hazards_ended(ample, got):
+    """As `how_table_ended`, of a table of hazards."""
+    rows = got.out.splitlines(), ample.out.splitlines()
+    if got.err or got.status != 3 or len(rows[0]) != len(rows[1]):
+        return None
+    fits = all(row == wanted or is_open(row, wanted) for row, wanted in zip(*rows))
+    return "between" if fits else None
+
+
 def how_table_ended(ample, got):
     """By what a table of outputs ended that isn't the same as with memory enough, None where it
     reported anything wrong: some of its searches were cut short.
     """
+    if "\nhazard " in ample.out:
+        return how_hazards_ended(ample, got)
     wanted, found = reports.rows_of(ample.out), reports.rows_of(got.out)
     if got.err or got.status != 3 or len(found) != len(wanted):
         return None
@@ -227,11 +271,11 @@ def how_it_ended(tested, command, got):
     if (
         got.status == 5
         and got.err in ["tdelay: out of memory\n", ""] + NO_TIMER * ("--seconds" in command.words)
-        and ample.out.startswith(got.out)
+        and (ample.out.startswith(got.out) or says_memory(command.words, got.out))
     ):
         whole = all(text in (None, wanted) for text, wanted in zip(got.written, ample.written))
         return "out of memory" if whole else None
-    if "--each" in command.words:
+    if is_table(command.words):
         return how_table_ended(ample, got)
     figures, bound = reports.figures_of(got.out), reports.bound_without_pair(got.out)
     if bound is not None and "--keep" in command.words:
@@ -274,10 +318,18 @@ def try_growth(tested, refuser, command, first, last):
     return how
 
 
+def in_turn(cases):
+    """The cases of each command in their order, a command's first before another's second."""
+    counts, turns = Counter(), {}
+    for it in cases:
+        turns[it] = counts[it[0]] = counts[it[0]] + 1
+    return sorted(cases, key=turns.get)
+
+
 def chosen(tested, commands):
-    """The growths that are tried, by commands: those after roots, to a half of all, and a random
-    choice of the others; all where as many are asked for. Those of searches with conditions come
-    first, as they are few.
+    """The growths that are tried, by commands: those after roots, to a half of all, and others, a
+    random choice with as many of each command; all where as many are asked for. Those of searches
+    with conditions come first, as they are few.
     """
     every = [
         (place, first, last)
@@ -286,10 +338,10 @@ def chosen(tested, commands):
         for last in (first, NEVER)
     ]
     tested.random.shuffle(every)
-    rooted = [it for it in every if it[1] == it[2] and it[1] in commands[it[0]].rooted]
+    rooted = in_turn([it for it in every if it[1] == it[2] and it[1] in commands[it[0]].rooted])
     rooted.sort(key=lambda it: "--keep" not in commands[it[0]].words)
     rooted = set(rooted[: tested.most // 2])
-    others = [it for it in every if it not in rooted]
+    others = in_turn([it for it in every if it not in rooted])
     return sorted([*rooted, *others[: tested.most - len(rooted)]])
 
 

@@ -35,7 +35,7 @@ A file that goes to standard output goes there, and help is printed.
   $ tdelay worst $NETLISTS/c17.v -q --cert - | cmp - c17.cert
   $ tdelay worst $NETLISTS/c17.v --each -q
   $ tdelay worst --each -q --help | head -1
-  Searches for the worst delay of the admitted pairs of vectors, and a pair that has it
+  Searches for the worst delay, and a pair of vectors that has it
   $ tdelay sim -q --help | head -1
   Simulates one pair of vectors: when each output changes last
   $ tdelay info $NETLISTS/c17.v -- -q 2>&1 | head -1

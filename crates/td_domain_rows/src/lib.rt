@@ -5,9 +5,13 @@
 #[cfg(test)]
 mod circuits;
 #[cfg(test)]
+mod counting;
+#[cfg(test)]
 mod keeping;
 #[cfg(test)]
 mod kept;
+#[cfg(test)]
+mod narrowings;
 #[cfg(test)]
 mod queue;
 #[cfg(test)]

@@ -7,7 +7,7 @@ ghost use Rattle.td_domain.specs.declared.cubes.Trit.TheVariants.{Free};
 ghost use Rattle.td_domain.specs.Sheets.{IsSheet};
 
 use crate::circuits::circuit_of;
-use crate::texts::module;
+use crate::texts::{C17, module};
 use std::alloc::Global;
 use std::process::Abort;
 use std::test::*;
@@ -47,18 +47,6 @@ fn redone_each<D: Domain>(
     }
     Ok(figures)
 }
-
-const C17: &str = "module c17 (N1,N2,N3,N6,N7,N22,N23);
-input N1,N2,N3,N6,N7;
-output N22,N23;
-nand (N10,N1,N3);
-nand (N11,N3,N6);
-nand (N16,N2,N11);
-nand (N19,N11,N7);
-nand (N22,N10,N16);
-nand (N23,N16,N19);
-endmodule
-";
 
 /// Looks at how many gates such narrowings reach.
 fn check_reached<D: Domain>(
