@@ -9,8 +9,12 @@ use crate::trail::Value;
 use std::alloc::AllocError;
 
 impl Solver {
-    // Takes a clause of the proof in.
-    pub(crate) fn take_in(&mut self, number: ClauseNumber) -> Result<(), AllocError> {
+    // Takes a clause of the proof in, one with glue as learned.
+    pub(crate) fn take_in(
+        &mut self,
+        number: ClauseNumber,
+        glue: Option<u32>,
+    ) -> Result<(), AllocError> {
         if self.empty.is_some() {
             return Ok(());
         }
@@ -22,11 +26,20 @@ impl Solver {
             self.put_latest_first();
             let second = read(&self.literals, 1, 0);
             if !self.is_false_for_good(second) {
-                return self.attach_live(number);
+                return self.attach_live(number, glue);
             }
         }
         self.back(0);
-        self.take_in_at_root(number)
+        self.take_in_at_root(number, glue)
+    }
+
+    // Attaches the copied clause.
+    fn attach(&mut self, number: ClauseNumber, glue: Option<u32>) -> Result<Clause, AllocError> {
+        let clause = self.board.attach(number, &self.literals, glue)?;
+        if glue.is_some() {
+            self.learned.push(clause)?;
+        }
+        Ok(clause)
     }
 
     // Copies the literals of a clause, each once.
@@ -82,18 +95,18 @@ impl Solver {
 
     // Attaches the copied clause, of which the second literal isn't false for good, and goes back
     // as far as it wants that.
-    fn attach_live(&mut self, number: ClauseNumber) -> Result<(), AllocError> {
+    fn attach_live(&mut self, number: ClauseNumber, glue: Option<u32>) -> Result<(), AllocError> {
         let first = read(&self.literals, 0, 0);
         let second = read(&self.literals, 1, 0);
         if self.board.trail.value(second) != Value::False {
-            self.board.attach(number, &self.literals, None)?;
+            self.attach(number, glue)?;
             return Ok(());
         }
         let level = self.board.trail.level_of(place_of(second));
         match self.board.trail.value(first) {
             Value::Open => {
                 self.back(level);
-                let clause = self.board.attach(number, &self.literals, None)?;
+                let clause = self.attach(number, glue)?;
                 self.board.trail.assign(first, Some(clause));
                 return Ok(());
             }
@@ -104,17 +117,21 @@ impl Solver {
             }
             Value::False => self.back(level.saturating_sub(1)),
         }
-        self.board.attach(number, &self.literals, None)?;
+        self.attach(number, glue)?;
         Ok(())
     }
 
     // Takes in the copied clause at level 0.
-    fn take_in_at_root(&mut self, number: ClauseNumber) -> Result<(), AllocError> {
+    fn take_in_at_root(
+        &mut self,
+        number: ClauseNumber,
+        glue: Option<u32>,
+    ) -> Result<(), AllocError> {
         match self.front_open() {
             0 => self.conclude(number),
             1 => self.take_in_unit(number),
             _ => {
-                self.board.attach(number, &self.literals, None)?;
+                self.attach(number, glue)?;
                 Ok(())
             }
         }

@@ -20,9 +20,11 @@ const PROPAGATIONS_OF_A_UNIT: u64 = 1000;
 // So many words of 4 bytes a variable takes, about.
 const WORDS_OF_A_VARIABLE: u64 = 48;
 // A lemma that other solvers are told has no more glue, and no more literals.
-const TOLD_GLUE: u32 = 2;
+const TOLD_GLUE: u32 = 10;
 
-const TOLD_LITERALS: usize = 8;
+const TOLD_LITERALS: usize = 60;
+// What another solver has learned stays where it is used, as a clause with this glue does.
+const GLUE_OF_HEARD: u32 = 10;
 
 /// Clauses over variables, to which more may be added between questions. A question asks whether
 /// all clauses and some assumptions can be true. What is learned for one serves later ones.
@@ -35,7 +37,7 @@ pub struct Solver {
     pub(crate) analysis: Analysis,
     pace: Pace,
     // The learned clauses of the board.
-    learned: Vec<Clause>,
+    pub(crate) learned: Vec<Clause>,
     // How many literals of level 0 have a clause of that one literal.
     pub(crate) named: usize,
     // The clause without literals, once there is one.
@@ -43,7 +45,7 @@ pub struct Solver {
     conflicts: u64,
     // Questions stay open once so many watches were looked at.
     pause: u64,
-    // The short lemmas that were learned, where they are kept.
+    // The lemmas for other solvers that were learned, where they are kept.
     told: Option<Vec<ClauseNumber>>,
     // The assumptions that the trail begins with.
     assumed: Vec<Literal>,
@@ -189,8 +191,8 @@ impl Solver {
         mem::replace(&mut self.proof, rest)
     }
 
-    /// The numbers of the short lemmas that were learned since the last call, none at the first
-    /// one. They are lemmas that may serve other solvers of the same clauses.
+    /// The numbers of the lemmas with little glue that were learned since the last call, none at
+    /// the first one. They may serve other solvers of the same clauses.
     pub fn take_told(&mut self) -> Vec<ClauseNumber> {
         let none = Some(Vec::new(self.alloc));
         match mem::replace(&mut self.told, none) {
@@ -204,7 +206,15 @@ impl Solver {
     /// any more, but for its proof.
     pub fn add(&mut self, clause: &[Literal]) -> Result<ClauseNumber, AllocError> {
         let number = self.proof.give(clause)?;
-        self.take_in(number)?;
+        self.take_in(number, None)?;
+        Ok(number)
+    }
+
+    /// Adds a lemma that another solver has learned, likewise. It may be removed like one of its
+    /// own.
+    pub fn hear(&mut self, lemma: &[Literal]) -> Result<ClauseNumber, AllocError> {
+        let number = self.proof.give(lemma)?;
+        self.take_in(number, Some(GLUE_OF_HEARD))?;
         Ok(number)
     }
 
@@ -443,7 +453,7 @@ impl Solver {
             .proof
             .learn(self.analysis.clause(), self.analysis.hints())?;
         self.back(0);
-        self.take_in(lemma)?;
+        self.take_in(lemma, None)?;
         Ok(lemma)
     }
 

@@ -322,6 +322,32 @@ fn a_short_lemma_is_told(rt: HostRuntime) -> Result<(), Fail> {
 }
 
 #[test]
+fn a_heard_lemma_counts(rt: HostRuntime) -> Result<(), Fail> {
+    let mut solver = Solver::new(rt.alloc());
+    let mut inputs = Vec::new(rt.alloc());
+    for _ in 0..3 {
+        inputs.push(solver.add_variable(false)?)?;
+    }
+    let number = solver.hear(&[literal_at(0, true), literal_at(1, true)])?;
+    assert!(rt; solver.proof().is_given(number));
+    solver.hear(&[literal_at(0, true), literal_at(1, false)])?;
+    solver.hear(&[literal_at(0, false), literal_at(2, true)])?;
+    let is_satisfied = match ask_all(&mut solver, &inputs)? {
+        Outcome::Satisfied => true,
+        _ => false,
+    };
+    assert!(rt; is_satisfied && solver.is_true(literal_at(0, true)));
+    assert!(rt; solver.is_true(literal_at(2, true)));
+    solver.hear(&[literal_at(2, false)])?;
+    let is_refuted = match ask_all(&mut solver, &inputs)? {
+        Outcome::Refuted(_) => true,
+        _ => false,
+    };
+    assert!(rt; is_refuted);
+    Ok(())
+}
+
+#[test]
 fn a_proof_is_handed_over(rt: HostRuntime) -> Result<(), Fail> {
     let (mut solver, _) = contradictory(rt.alloc(), 2)?;
     let words = solver.words();

@@ -27,6 +27,7 @@ mod counter;
 mod cubes;
 mod explanation;
 mod forgetting;
+mod hearing;
 mod levels;
 mod limits;
 mod log;

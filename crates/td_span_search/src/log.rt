@@ -188,13 +188,14 @@ impl Log {
         Ok(())
     }
 
-    /// Takes in what a worker did, whose variables say these. The error is out of memory.
+    /// Takes in what a worker did, whose variables say these. Answers the numbers of its
+    /// explanations. The error is out of memory.
     pub fn take_in(
         &mut self,
         names: &mut Names,
         meanings: &[Meaning],
         steps: Steps,
-    ) -> Result<(), AllocError> {
+    ) -> Result<Vec<ClauseNumber>, AllocError> {
         for meaning in meanings.iter().skip(names.variables.len()) {
             let variable = self.variable(*meaning)?;
             names.variables.push(variable)?;
@@ -208,17 +209,23 @@ impl Log {
         }
         let mut notes = record.notes;
         notes.reverse();
+        let mut explanations = Vec::new(self.alloc);
         for number in proof.first()..proof.next() {
             let literals = names.literals(self.alloc, proof.literals(number))?;
             let name = if proof.is_given(number) {
                 let note = notes.pop();
-                self.give(&literals, note, names, links)?
+                let explains = is_explanation(&note);
+                let name = self.give(&literals, note, names, links)?;
+                if explains {
+                    explanations.push(name)?;
+                }
+                name
             } else {
                 self.learn(&literals, proof.hints(number), names)?
             };
             names.clauses.push(name)?;
         }
-        Ok(())
+        Ok(explanations)
     }
 
     // Takes in a clause that was given. Answers its number.
@@ -291,6 +298,14 @@ impl Log {
         literals.sort_unstable();
         literals.dedup();
         self.proof.learn(&literals, &[one, other])
+    }
+}
+
+// Whether a clause was given to explain a span.
+fn is_explanation(note: &Option<Note>) -> bool {
+    match note {
+        Some(Note::Given(_, Axiom::Gate(_, _))) => true,
+        _ => false,
     }
 }
 

@@ -74,7 +74,7 @@ impl<'a> Team<'a> {
         for output in &self.reach.late_outputs(self.alloc, self.network, moment)? {
             if let Some(first) = self.workers.first() {
                 let bits = first.search.active_bits(*output)?;
-                tree.add(*output, bits, self.size)?;
+                tree.add(*output, bits)?;
             }
         }
         self.question = Some(tree);
@@ -129,21 +129,41 @@ impl<'a> Team<'a> {
         Ok(Some(sides))
     }
 
-    // Gives each free worker a cube that waits, or the second side of the one that took longest.
+    // Gives each free worker a cube that waits, or the second side of the one that took longest;
+    // where that can't be split yet, both ask about it.
     fn spread(&mut self) -> Result<(), AllocError> {
         for worker in 0..self.places.len() {
-            if read(&self.places, worker, None).is_some() {
+            if self.is_alone(worker) {
                 continue;
             }
-            let Some(place) = self.next_cube()? else {
-                return Ok(());
+            let place = match self.next_cube()? {
+                Some(place) => Some(place),
+                None => self.longest(0),
             };
-            write_at(&mut self.places, worker, Some(place));
-            if let Some(tree) = &mut self.question {
+            write_at(&mut self.places, worker, place);
+            if let (Some(place), Some(tree)) = (place, &mut self.question) {
                 tree.set(place, State::Running);
             }
         }
         Ok(())
+    }
+
+    // Whether a worker asks about a cube about which none before it asks.
+    fn is_alone(&self, worker: usize) -> bool {
+        let place = read(&self.places, worker, None);
+        for other in 0..worker {
+            if read(&self.places, other, None) == place {
+                return false;
+            }
+        }
+        place.is_some()
+    }
+
+    fn longest(&self, least: u64) -> Option<usize> {
+        match &self.question {
+            Some(tree) => tree.longest(least),
+            None => None,
+        }
     }
 
     fn next_cube(&mut self) -> Result<Option<usize>, AllocError> {
@@ -153,7 +173,7 @@ impl<'a> Team<'a> {
         if let Some(place) = tree.first_open() {
             return Ok(Some(place));
         }
-        match tree.longest(LEAST) {
+        match self.longest(LEAST) {
             Some(longest) => self.split(longest),
             None => Ok(None),
         }

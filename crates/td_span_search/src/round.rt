@@ -204,8 +204,15 @@ impl<'a> Team<'a> {
             ..
         } = mem::replace(&mut worker.report, Report::none(self.alloc));
         let steps = Steps::of(self.alloc, &mut worker.search);
-        self.log
+        let explanations = self
+            .log
             .take_in(&mut worker.names, &worker.search.meanings, steps)?;
+        for lemma in &explanations {
+            merged.told.push(Told {
+                lemma: *lemma,
+                by: Some(place),
+            })?;
+        }
         for own in &closed {
             let lemma = worker.names.clause(own.lemma);
             merged.closed.push((own.place, lemma))?;

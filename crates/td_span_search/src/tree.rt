@@ -80,10 +80,9 @@ impl Tree {
         }
     }
 
-    /// Adds the question about an output, split at once into so many cubes, where there are bits
-    /// for that. The error is out of memory.
-    pub fn add(&mut self, output: Net, bits: Vec<CubeBit>, width: usize) -> Result<(), AllocError> {
-        let root = self.nodes.len();
+    /// Adds the question about an output, which may be split at these bits. The error is out of
+    /// memory.
+    pub fn add(&mut self, output: Net, bits: Vec<CubeBit>) -> Result<(), AllocError> {
         self.nodes.push(Node {
             output,
             cube: Vec::new(self.alloc),
@@ -94,15 +93,6 @@ impl Tree {
             sides: None,
             lemma: None,
         })?;
-        let mut leaves = 1usize;
-        let mut next = root;
-        for _ in 0..width {
-            if leaves >= width || !self.split(next)? {
-                return Ok(());
-            }
-            leaves = leaves.saturating_add(1);
-            next = next.saturating_add(1);
-        }
         Ok(())
     }
 

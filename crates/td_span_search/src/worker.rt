@@ -5,11 +5,10 @@ use crate::asking::{Asked, Reply};
 use crate::log::{Log, Names};
 use crate::network::Net;
 use crate::reach::Reach;
-use crate::record::Axiom;
-use crate::search::{CubeBit, Found, Meaning, Search};
+use crate::search::{CubeBit, Found, Search};
 use std::alloc::{AllocError, Global};
 use std::mem;
-use td_cdcl::{ClauseNumber, Literal, literal_at, read, variable_of};
+use td_cdcl::{ClauseNumber, read, variable_of};
 
 // A cube is split at one of so many bits at most.
 const MOST_BITS: usize = 40;
@@ -68,12 +67,13 @@ pub struct Report {
     pub candidate: Option<Found>,
     /// Where its share of the climb came to.
     pub climbed: Option<Found>,
-    /// Short lemmas.
+    /// Lemmas for the others.
     pub told: Vec<ClauseNumber>,
     pub is_out_of_memory: bool,
 }
 
-/// A lemma of the log that a worker told, or none did alone.
+/// A clause of the log that the workers are told: a lemma or an explanation of one of them, or a
+/// lemma that none of them made alone.
 #[derive(Clone, Copy, Drop)]
 pub struct Told {
     pub lemma: ClauseNumber,
@@ -194,6 +194,8 @@ impl<'a> Worker<'a> {
                 self.search.hear(known.log, told.lemma)?;
             }
         }
+        // What was heard may lie in no cone that was looked at.
+        self.search.cone_of = None;
         self.search.pause = self
             .search
             .steps()
@@ -239,36 +241,6 @@ impl<'a> Worker<'a> {
 }
 
 impl<'a> Search<'a> {
-    // The variable that says this, if there is one.
-    fn variable_that_says(&self, meaning: Meaning) -> Option<u32> {
-        match meaning {
-            Meaning::First(net) => Some(variable_of(self.settled_literal(net, false)?)),
-            Meaning::Last(net) => Some(variable_of(self.settled_literal(net, true)?)),
-            Meaning::Span(span) | Meaning::Forgotten(span) => self.spans.find(span),
-            Meaning::Differ { inputs, at_least } => {
-                let counts = self.counter.get(inputs as usize)?;
-                let place = at_least.checked_sub(1)? as usize;
-                Some(variable_of(*counts.get(place)?))
-            }
-        }
-    }
-
-    // Takes a lemma of the log in, where all that it speaks of is known. The error is out of
-    // memory.
-    fn hear(&mut self, log: &Log, lemma: ClauseNumber) -> Result<(), AllocError> {
-        let mut clause: Vec<Literal> = Vec::new(self.alloc);
-        for literal in log.proof.literals(lemma) {
-            let Some(meaning) = log.meanings.get(variable_of(*literal) as usize) else {
-                return Ok(());
-            };
-            let Some(variable) = self.variable_that_says(*meaning) else {
-                return Ok(());
-            };
-            clause.push(literal_at(variable, *literal % 2 == 0))?;
-        }
-        self.add(&clause, Axiom::Told(lemma))
-    }
-
     /// The input bits below an output that were met in conflicts and aren't known, at 0, those met
     /// most first. The error is out of memory.
     pub(crate) fn active_bits(&self, output: Net) -> Result<Vec<CubeBit>, AllocError> {
