@@ -72,8 +72,8 @@ pub record Holds (holds : List ℕ → List ℕ → Type 0) (request : Request) 
   pub others : AreHeld holds (certificate_names request.command) certificates
   pub conditions : IsHeldWhere holds (keep_file request.command) keep
 
--- an outcome that is true of what the files hold, and of the search, was printed, and no file that the request writes is
--- another one of it
+-- an outcome that is true of what the files hold, and of the search, was printed, and no file that
+-- the request writes is another one of it
 pub record PrintsTrue (disk : Disk) (request : Request) (ending : Status) (old new : Output) : Type 0 where
   pub apart : KeepsFiles disk request
   pub alone : conflict_of request ≡ None
