@@ -2,6 +2,7 @@
 //! evidence.
 #![tactic(auto)]
 
+mod begun;
 mod borrowed;
 mod deck;
 mod effort;
