@@ -14,6 +14,7 @@ mod history;
 mod kept;
 pub mod laws;
 mod leaf;
+mod lent;
 mod limits;
 mod milestones;
 mod pool;

@@ -22,6 +22,7 @@ use crate::effort::Effort;
 use crate::found::{Found, Report, Start};
 use crate::hints::Hints;
 use crate::kept::Kept;
+use crate::lent::lend;
 use crate::limits::Limits;
 use crate::shared::Shared;
 use crate::state::State;
@@ -88,8 +89,10 @@ pub fn worst<P: Prober + Sync, R: Threads + Wait + Sync>(
     ensures time { IfOk result (TimeNeedsStop false) }
     ensures fault { IfErr result (IsSearchFault (problem circuit.now admit.now)) }
 {
-    let decks = Deck::deal(alloc, workers as usize)?;
-    worst_by(rt, alloc, circuit, admit, prober, decks, workers, budget)
+    let mut decks = Deck::deal(alloc, workers as usize)?;
+    worst_by(
+        rt, alloc, circuit, admit, prober, &mut decks, workers, budget,
+    )
 }
 
 /// As `worst`, where the workers tell each other by these, one for each worker, which leaves may be
@@ -99,13 +102,13 @@ pub fn worst<P: Prober + Sync, R: Threads + Wait + Sync>(
 /// # Errors
 ///
 /// As `worst`.
-pub fn worst_by<P: Prober + Sync, D: Hints + Drop + Send, R: Threads + Wait + Sync>(
+pub fn worst_by<P: Prober + Sync, D: Hints + Send, R: Threads + Wait + Sync>(
     rt: &R,
     alloc: Global,
     circuit: &Circuit,
     admit: &Admit,
     prober: &P,
-    decks: Vec<D>,
+    decks: &mut [D],
     workers: u32,
     budget: u64,
 ) -> Result<Answer, SearchFault>
@@ -113,7 +116,7 @@ pub fn worst_by<P: Prober + Sync, D: Hints + Drop + Send, R: Threads + Wait + Sy
     requires few { workers ≤ 64 }
     requires modest { budget ≤ 10000000 }
     requires held { length admit.now.held ≡ length circuit.now.netlist.inputs }
-    requires decks { length decks.items ≡ workers }
+    requires decks { length decks.old ≡ workers }
     ensures answer { IfOk result (IsAnswer (problem circuit.now admit.now) budget) }
     ensures text { IfOk result (CanBeWritten (problem circuit.now admit.now)) }
     ensures time { IfOk result (TimeNeedsStop false) }
@@ -126,8 +129,9 @@ pub fn worst_by<P: Prober + Sync, D: Hints + Drop + Send, R: Threads + Wait + Sy
     };
     let never = Stop::never();
     let limits = Limits::until(Effort { workers, budget }, &never);
+    let lent = lend(alloc, decks)?;
     let mut nobody = Unwatched;
-    let Ended { answer, .. } = search_by(rt, alloc, &problem, prober, decks, limits, &mut nobody)?;
+    let Ended { answer, .. } = search_by(rt, alloc, &problem, prober, lent, limits, &mut nobody)?;
     Ok(answer)
 }
 
