@@ -11,6 +11,7 @@
 //! between true bounds, whatever the schedule. A `Watch` hears how far they are.
 #![tactic(auto)]
 
+mod begun;
 mod borrowed;
 mod deck;
 mod effort;
@@ -22,6 +23,7 @@ mod history;
 mod kept;
 pub mod laws;
 mod leaf;
+mod lent;
 mod limits;
 mod milestones;
 mod pool;
