@@ -13,6 +13,7 @@ use Rattle.td_answer.specs.declared.outcome.Outcome.{Outcome}
 use Rattle.td_answer.specs.Certified.{IsCertified}
 use Rattle.td_answer.specs.Conditions.{IsTrueBy, IsTrueSearch, IsCertifiedBy, IsCertifiedFor}
 use Rattle.td_answer.specs.Kept.{has_some, has_conditions, IsTrueKept, IsCertifiedAmong}
+use Rattle.td_answer.specs.Answered.{PrintsAnswer, PrintsAnswerBy, IsPrintOfSearch}
 use Rattle.td_answer.specs.Sentences.{IsTrueWorst}
 
 none_in : {A : Type 0} (x : A) → Contains [] x → ⊥
@@ -58,3 +59,13 @@ pub certified_with : (text : List ℕ) (reading : Reading) (search : Search) (ou
     → IsCertifiedFor text reading search outcome.report outcome.certificate
 certified_with text reading search outcome some is =
     subst (λ (b : Bool). IsCertifiedBy b text reading search outcome.report outcome.certificate) (sym some) is
+
+-- ---- what the report says of the search
+
+pub printed_without : (text : List ℕ) (reading : Reading) (search : Search) (outcome : Outcome) → has_conditions search.question ≡ false
+    → PrintsAnswer text reading search outcome → IsPrintOfSearch text reading search outcome
+printed_without text reading search outcome none is = subst (λ (b : Bool). PrintsAnswerBy b text reading search outcome) (sym none) is
+
+pub printed_with : (text : List ℕ) (reading : Reading) (search : Search) (outcome : Outcome) → has_conditions search.question ≡ true
+    → IsPrintOfSearch text reading search outcome
+printed_with text reading search outcome some = subst (λ (b : Bool). PrintsAnswerBy b text reading search outcome) (sym some) tt

@@ -17,6 +17,7 @@ pub mod Kept
 pub mod KeptTerms
 pub mod OpenCertificates
 pub mod Conditions
+pub mod Answered
 pub mod Requirements
 pub mod Searches
 pub mod Findings

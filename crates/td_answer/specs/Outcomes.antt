@@ -12,6 +12,7 @@ use Rattle.td_request.specs.declared.request.Command.{Command}
 use Rattle.td_request.specs.declared.request.Command.TheVariants as command
 use Rattle.td_request.specs.declared.request.Request.{Request}
 use Rattle.td_answer.specs.Bounds.{IsTrueBound, IsRefusedBound}
+use Rattle.td_answer.specs.Answered.{IsPrintOfTable}
 use Rattle.td_answer.specs.Conditions.{IsTrueSearch, IsCertifiedFor}
 use Rattle.td_answer.specs.Filled.{filled}
 use Rattle.td_answer.specs.Hazards.{AreTrueHazards}
@@ -77,6 +78,11 @@ IsCertifiedBy (command.Worst asked) text reading outcome = IsCertifiedSearch ask
 IsCertifiedBy (command.Join asked) text reading outcome = Unit {0}
 IsCertifiedBy other text reading outcome = outcome.certificate ≡ None
 
+-- what the report of a search says of the search
+abbrev pub IsPrintOfCommand : Command → List ℕ → Reading → Outcome → Type 0
+IsPrintOfCommand (command.Worst asked) text reading outcome = IsPrintOfTable asked.table text reading asked outcome
+IsPrintOfCommand other text reading outcome = Unit {0}
+
 -- why there is none
 abbrev pub IsRefusedBy : Command → List ℕ → Reading → List (Vec ℕ) → Refusal → Type 0
 IsRefusedBy (command.Sim asked) text reading spelled reason = IsRefusedSim text reading asked reason
@@ -93,6 +99,9 @@ IsTrueOutcome request texts outcome = SaysTrue (filled texts.keep request.comman
 
 abbrev pub HasCertificate : Request → Texts → Outcome → Type 0
 HasCertificate request texts outcome = IsCertifiedBy (filled texts.keep request.command) texts.netlist.now request.reading outcome
+
+abbrev pub IsPrintOf : Request → Texts → Outcome → Type 0
+IsPrintOf request texts outcome = IsPrintOfCommand (filled texts.keep request.command) texts.netlist.now request.reading outcome
 
 abbrev pub IsRefused : Request → Texts → Refusal → Type 0
 IsRefused request texts reason = IsRefusedBy (filled texts.keep request.command) texts.netlist.now request.reading texts.certificates.now reason

@@ -5,8 +5,9 @@ ghost use Rattle.td_search.specs.Problems.{Problem};
 ghost use Rattle.td_question.specs.Asking.{IsAsked};
 ghost use Rattle.td_answer.specs.Searches.{IsRefusedSearch};
 ghost use Rattle.td_answer.specs.Filled.{filled};
+ghost use Rattle.td_answer.specs.Answered.{IsPrintOfTable};
 ghost use Rattle.td_answer.specs.Ends.{EndsByStop};
-ghost use Rattle.td_answer.specs.Outcomes.{IsPlain, IsCheckedTrue, IsRefusedChecked, IsSearchedTrue, IsCertifiedSearch, IsSearched, IsTrueOutcome, HasCertificate, IsRefused};
+ghost use Rattle.td_answer.specs.Outcomes.{IsPlain, IsCheckedTrue, IsRefusedChecked, IsSearchedTrue, IsCertifiedSearch, IsSearched, IsTrueOutcome, IsPrintOf, HasCertificate, IsRefused};
 ghost use Rattle.td_answer.specs.Writing.{CanBeWritten};
 
 use crate::bound::bounds;
@@ -48,6 +49,7 @@ pub fn answer<'n, 'w, 'c, W: TableWatch, R: Threads + Wait + Sync>(
     watch: &mut W,
 ) -> Result<Outcome, Refusal<'n, 'w>>
     ensures says { IfOk result (IsTrueOutcome request.now texts.now) }
+    ensures answered { IfOk result (IsPrintOf request.now texts.now) }
     ensures certified { IfOk result (HasCertificate request.now texts.now) }
     ensures written { IfOk result CanBeWritten }
     ensures refusal { IfErr result (IsRefused request.now texts.now) }
@@ -83,6 +85,7 @@ pub fn answer_plain<'n, 'w, 'c>(
 ) -> Result<Outcome, Refusal<'n, 'w>>
     requires { IsPlain request.now.command }
     ensures says { IfOk result (IsTrueOutcome request.now texts.now) }
+    ensures answered { IfOk result (IsPrintOf request.now texts.now) }
     ensures certified { IfOk result (HasCertificate request.now texts.now) }
     ensures written { IfOk result CanBeWritten }
     ensures refusal { IfErr result (IsRefused request.now texts.now) }
@@ -122,6 +125,7 @@ fn searched<'n, 'w, W: TableWatch, R: Threads + Wait + Sync>(
     watch: &mut W,
 ) -> Result<Outcome, Refusal<'n, 'w>>
     ensures says { IfOk result (IsSearchedTrue search.now.table text.now reading.now search.now) }
+    ensures answered { IfOk result (IsPrintOfTable search.now.table text.now reading.now search.now) }
     ensures certified { IfOk result (IsCertifiedSearch search.now.table text.now reading.now search.now) }
     ensures written { IfOk result CanBeWritten }
     ensures refusal { IfErr result (IsRefusedSearch text.now reading.now search.now) }

@@ -7,6 +7,7 @@ ghost use Rattle.td_search.specs.Problems.{Problem, problem_by, has_delay};
 ghost use Rattle.td_worst.specs.Methods.{tree_of, high_of};
 ghost use Rattle.td_worst.specs.Supports.{IsSupport};
 ghost use Rattle.td_question.specs.Asking.{IsAsked};
+ghost use Rattle.td_answer.specs.Answered.{IsPrintOfSearch};
 ghost use Rattle.td_answer.specs.Methods.{method_of, bytes_of};
 ghost use Rattle.td_answer.specs.Heads.{head_lines};
 ghost use Rattle.td_answer.specs.Lines.{answer_lines, ending_of, pair_in};
@@ -251,6 +252,7 @@ pub(crate) fn worst<'n, 'w, W: Watch, R: Threads + Wait + Sync>(
     watch: &mut W,
 ) -> Result<Outcome, Refusal<'n, 'w>>
     ensures says { IfOk result (IsTrueSearch text.now reading.now search.now) }
+    ensures answered { IfOk result (IsPrintOfSearch text.now reading.now search.now) }
     ensures certified { IfOk result (λ outcome. IsCertifiedFor text.now reading.now search.now outcome.report outcome.certificate) }
     ensures written { IfOk result CanBeWritten }
     ensures refusal { IfErr result (IsRefusedSearch text.now reading.now search.now) }

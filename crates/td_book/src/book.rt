@@ -179,23 +179,27 @@ fn list_numbers(chain: &Chain, first: u32, space: Vec<u32>, count: usize) -> Vec
 
 impl Book {
     /// One open root with this cube, and nothing handled. The budget is how many nodes may be
-    /// handled, at most 10,000,000. The error is out of memory.
-    pub fn new(alloc: Global, root: Cube, workers: u32, budget: u64) -> Result<Book, AllocError>
+    /// handled, at most 10,000,000. Where memory is refused the cube comes back.
+    pub fn new(alloc: Global, root: Cube, workers: u32, budget: u64) -> Result<Book, Cube>
         requires positions { length root < 2 ^ 32 }
         requires budget { budget ≤ 10000000 }
-        ensures { IfOk result (λ b. b ≡ opening root workers budget) }
+        ensures { MatchResult result (λ b. b ≡ opening root workers budget) (λ back. back ≡ root) }
     {
-        let cube = vec![in alloc; Trit::Free; root.len()]?;
-        let chain = Chain::new(alloc, root)?;
-        Ok(Book {
-            alloc,
-            workers,
-            budget,
-            allowed: 0,
-            chain,
-            order: Vec::new(alloc),
-            cube,
-        })
+        let Ok(cube) = vec![in alloc; Trit::Free; root.len()] else {
+            return Err(root);
+        };
+        match Chain::new(alloc, root) {
+            Ok(chain) => Ok(Book {
+                alloc,
+                workers,
+                budget,
+                allowed: 0,
+                chain,
+                order: Vec::new(alloc),
+                cube,
+            }),
+            Err(root) => Err(root),
+        }
     }
 
     /// The number of positions of the root's cube.

@@ -1,6 +1,15 @@
 //! A tree of cubes whose leaves are open, held by a worker, or closed with a bound and a cut.
 //! Workers take its leaves one after another, split or close them, and what they did can be
 //! replayed.
+//!
+//! ```text
+//! open ──claim (worker, budget)──▶ held ──split──▶ two open leaves
+//!   ▲                               │ ╲─close (bound ≤ cut)──▶ closed, by a bound or a pair
+//!   └───────────release─────────────┘
+//! ```
+//!
+//! A lease is what a worker holds of a leaf. A `Subtree` that somebody hands in is grafted only
+//! where it fits. Nothing here waits for anybody.
 #![tactic(auto)]
 
 mod book;

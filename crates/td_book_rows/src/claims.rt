@@ -17,7 +17,10 @@ pub fn free_book(
     requires budget { budget ≤ 10000000 }
     ensures { IfOk result (λ book. book.order ≡ []) }
 {
-    Book::new(alloc, Cube::free(alloc, inputs)?, workers, budget)
+    match Book::new(alloc, Cube::free(alloc, inputs)?, workers, budget) {
+        Ok(book) => Ok(book),
+        Err(_root) => Err(AllocError),
+    }
 }
 
 /// The lease that a claim gives, or why it gives none.

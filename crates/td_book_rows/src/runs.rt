@@ -30,7 +30,7 @@ fn known_book(rt: &impl Abort, alloc: Global) -> Result<Book, AllocError> {
     let trits = Vec::from_slice(alloc, &[Trit::One, Trit::Free, Trit::Free, Trit::Zero])?;
     let cube = Cube::new(trits);
     assert!(rt; cube.len() == 4);
-    Book::new(alloc, cube, 1, 3)
+    Book::new(alloc, cube, 1, 3).map_err(|_root| AllocError)
 }
 
 // Takes these steps, and looks at what they tell.

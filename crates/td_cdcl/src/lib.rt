@@ -1,8 +1,8 @@
 //! A conflict-driven clause-learning solver that is asked again and again.
 //!
 //! ```text
-//! add ──▶ proof ──▶ board (arena, watches, trail) ──propagate──▶ conflict ──analyze──▶ lemma ──▶ proof
-//!                     ▲ decide (activity)                                    restart, reduce (pace)
+//! add ──▶ proof ──▶ board (arena, watches, trail) ──propagate──▶ conflict ──analyze──▶ lemma
+//!                     ▲ decide (activity)          restart, reduce (pace)      proof ◀──┘
 //! ```
 //!
 //! Each clause that it learns stands in its proof with hints: the numbers of clauses by which unit
@@ -16,6 +16,7 @@ mod analysis;
 mod arena;
 mod board;
 mod hints;
+mod intake;
 mod literal;
 mod marks;
 mod pace;

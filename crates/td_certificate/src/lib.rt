@@ -1,4 +1,13 @@
 //! Certificates of a worst delay: evidence that another program can check, and its text.
+//!
+//! ```text
+//! bytes ──read──▶ Certificate { question, claim, tree } │ CertFault at a line
+//! Certificate ──write──▶ the one text that spells it
+//! tree: split at a position │ leaf by a bound (a, t, m, e), by a pair, by no pair, by steps
+//! ```
+//!
+//! Versions 1 to 4. Reading follows the text from its front, in memory that follows its length;
+//! each text has one certificate at most, and one verdict.
 #![tactic(auto)]
 
 mod asking;

@@ -1,4 +1,13 @@
 //! The checker of certificates: it trusts nobody, and stands on nothing of the search.
+//!
+//! ```text
+//! netlist's bytes ──▶ Circuit ─┐
+//! certificate's bytes ──▶ Certificate ─┴─check──▶ Accepted │ the first verdict that refuses it, at
+//!                                                  a line │ CheckFault
+//! ```
+//!
+//! Each leaf's bound or delay is computed again, by the domains and the queue, or its steps are
+//! judged. Accepted means: the claim is true of every admitted pair.
 #![tactic(auto)]
 
 mod admitting;

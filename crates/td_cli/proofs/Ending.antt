@@ -16,7 +16,7 @@ use Rattle.td_answer.specs.declared.refusal.Refusal.{Refusal}
 use Rattle.td_answer.specs.declared.status.Status.{Status}
 use Rattle.td_answer.specs.declared.status.Status.TheVariants as status
 use Rattle.td_answer.specs.declared.texts.Texts.{Texts}
-use Rattle.td_answer.specs.Outcomes.{IsTrueOutcome, IsRefused}
+use Rattle.td_answer.specs.Outcomes.{IsTrueOutcome, IsPrintOf, IsRefused}
 use Rattle.td_answer.specs.Statuses.{status_of}
 use Rattle.td_cli.specs.declared.fault.Fault.{Fault}
 use Rattle.td_cli.specs.declared.fault.Fault.TheVariants as fault
@@ -93,8 +93,8 @@ refused disk request texts reason ending old new held is unreported (inr so) = i
 -- an outcome that is true of what was read was printed
 pub carried : (disk : Disk) (request : Request) (texts : Texts) (outcome : Outcome) (ending : Status) (old new : Output)
     → conflict_of request ≡ None → KeepsFiles disk request → AreTexts disk.holds request texts
-    → IsTrueOutcome request texts outcome → Prints request outcome ending old new → Carries disk request ending old new
-carried disk request texts outcome ending old new alone apart held says prints = inl (record {
+    → IsTrueOutcome request texts outcome → IsPrintOf request texts outcome → Prints request outcome ending old new → Carries disk request ending old new
+carried disk request texts outcome ending old new alone apart held says answered prints = inl (record {
   apart = apart;
   alone = alone;
   netlist = texts.netlist.now;
@@ -103,6 +103,7 @@ carried disk request texts outcome ending old new alone apart held says prints =
   held = held;
   outcome = outcome;
   is_true = says;
+  answered = answered;
   prints = prints;
 })
 

@@ -20,7 +20,7 @@ use Rattle.td_answer.specs.declared.status.Status.{Status}
 use Rattle.td_answer.specs.declared.status.Status.TheVariants as status
 use Rattle.td_answer.specs.declared.refusal.Refusal.{Refusal}
 use Rattle.td_answer.specs.Filled.{filled}
-use Rattle.td_answer.specs.Outcomes.{SaysTrue, IsRefusedBy}
+use Rattle.td_answer.specs.Outcomes.{SaysTrue, IsPrintOfCommand, IsRefusedBy}
 use Rattle.td_answer.specs.Statuses.{code_of, status_of}
 use Rattle.td_command.specs.Conflicts.{conflict_of}
 use Rattle.td_cli.specs.Clashes.{HasClash, KeepsFiles}
@@ -72,8 +72,8 @@ pub record Holds (holds : List ℕ → List ℕ → Type 0) (request : Request) 
   pub others : AreHeld holds (certificate_names request.command) certificates
   pub conditions : IsHeldWhere holds (keep_file request.command) keep
 
--- an outcome that is true of what the files hold was printed, and no file that the request writes is
--- another one of it
+-- an outcome that is true of what the files hold, and of the search, was printed, and no file that
+-- the request writes is another one of it
 pub record PrintsTrue (disk : Disk) (request : Request) (ending : Status) (old new : Output) : Type 0 where
   pub apart : KeepsFiles disk request
   pub alone : conflict_of request ≡ None
@@ -83,6 +83,7 @@ pub record PrintsTrue (disk : Disk) (request : Request) (ending : Status) (old n
   pub held : Holds disk.holds request netlist certificates (option_map (λ text. text.now) keep)
   pub outcome : Outcome
   pub is_true : SaysTrue (filled keep request.command) netlist request.reading certificates outcome
+  pub answered : IsPrintOfCommand (filled keep request.command) netlist request.reading outcome
   pub prints : Prints request outcome ending old new
 
 -- a reason that holds of what the files hold that the request names; the program ends with its

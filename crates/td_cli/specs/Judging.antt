@@ -4,11 +4,12 @@ use Rattle.td_request.specs.declared.request.Request.{Request}
 use Rattle.td_answer.specs.declared.outcome.Outcome.{Outcome}
 use Rattle.td_answer.specs.declared.refusal.Refusal.{Refusal}
 use Rattle.td_answer.specs.declared.texts.Texts.{Texts}
-use Rattle.td_answer.specs.Outcomes.{IsRefused, IsTrueOutcome}
+use Rattle.td_answer.specs.Outcomes.{IsPrintOf, IsRefused, IsTrueOutcome}
 use Rattle.td_answer.specs.Writing.{CanBeWritten}
 
 -- an outcome that is true of them, or a reason that holds
 pub record IsAnswered (request : Request) (texts : Texts) (found : Result Outcome Refusal) : Type 0 where
   pub says : IfOk found (IsTrueOutcome request texts)
+  pub answered : IfOk found (IsPrintOf request texts)
   pub written : IfOk found CanBeWritten
   pub refusal : IfErr found (IsRefused request texts)

@@ -1,5 +1,14 @@
 //! Cubes of pairs of vectors, admitted pairs, domains of signals, the bound that a domain gives of
 //! a cube, and sheets: the signals of a cube that is narrowed and widened.
+//!
+//! ```text
+//! Cube: 0, 1 or free for each bit of both vectors      Admit: pins, held inputs, flips
+//! Cube ──Domain::input, gate──▶ a signal for each net ──▶ bound: no pair of the cube changes later
+//! Sheet ──narrow (a position)──▶ signals of the half cube ──widen──▶ as before
+//! ```
+//!
+//! A signal covers waves: all those that its net has under some pair of the cube. A domain is a
+//! kind of signals with the law that its gate function covers what the gate makes of covered waves.
 #![tactic(auto)]
 
 mod admits;

@@ -19,8 +19,10 @@ pub record IsWorking (asked : Problem) (kept : Kept) (pieces : List Evidence) (p
   pub evidence : AllByRecursion (IsTrueEvidence asked) pieces
   pub part : 0 < parts
 
--- `workers` workers begin with this, and a part of the ledger for each, which counts nothing yet
+-- `workers` workers, one at least, begin with this, and a part of the ledger for each, which counts
+-- nothing yet
 pub record IsCrew (asked : Problem) (incumbent : Shown) (workers : ℕ) (waiting : List Found) (shares counted : ℕ) : Type 0 where
+  pub some : 0 < workers
   pub parts : shares ≡ workers
   pub amount : counted ≡ 0
   pub count : length waiting ≡ workers

@@ -21,15 +21,6 @@ pub struct Report<L: Ledger> {
     pub share: Share<L>,
 }
 
-/// What all workers begin with: for each a deck and what it has found so far, and their share of
-/// the ledger.
-#[derive(Drop)]
-pub struct Crew<D, L: Ledger> {
-    pub decks: Vec<D>,
-    pub found: Vec<Found>,
-    pub share: Share<L>,
-}
-
 /// What one worker begins with, where there is a deck and something found for it.
 #[derive(Drop)]
 pub struct Start<D, L: Ledger> {

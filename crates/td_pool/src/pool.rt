@@ -15,15 +15,16 @@ ghost use Rattle.td_search.specs.Written.{CanBeWritten};
 ghost use Rattle.td_pool.specs.Truth.{IsTrueFound, IsStarting};
 ghost use Rattle.td_pool.specs.Working.{IsCrew, IsTruthful, IsWorking};
 
+use crate::begun::{Begun, Crew, begin};
 use crate::borrowed::{Borrowed, take_back};
 use crate::deck::Deck;
 use crate::effort::Effort;
-use crate::found::{Crew, Found, Report, Start};
+use crate::found::{Found, Report, Start};
 use crate::hints::Hints;
 use crate::kept::Kept;
+use crate::lent::lend;
 use crate::limits::Limits;
 use crate::shared::Shared;
-use crate::starting::{first_best, shared_of, starting_of};
 use crate::state::State;
 use crate::subject::Subject;
 use crate::watch::{Unwatched, Watch};
@@ -88,8 +89,10 @@ pub fn worst<P: Prober + Sync, R: Threads + Wait + Sync>(
     ensures time { IfOk result (TimeNeedsStop false) }
     ensures fault { IfErr result (IsSearchFault (problem circuit.now admit.now)) }
 {
-    let decks = Deck::deal(alloc, workers as usize)?;
-    worst_by(rt, alloc, circuit, admit, prober, decks, workers, budget)
+    let mut decks = Deck::deal(alloc, workers as usize)?;
+    worst_by(
+        rt, alloc, circuit, admit, prober, &mut decks, workers, budget,
+    )
 }
 
 /// As `worst`, where the workers tell each other by these, one for each worker, which leaves may be
@@ -99,13 +102,13 @@ pub fn worst<P: Prober + Sync, R: Threads + Wait + Sync>(
 /// # Errors
 ///
 /// As `worst`.
-pub fn worst_by<P: Prober + Sync, D: Hints + Drop + Send, R: Threads + Wait + Sync>(
+pub fn worst_by<P: Prober + Sync, D: Hints + Send, R: Threads + Wait + Sync>(
     rt: &R,
     alloc: Global,
     circuit: &Circuit,
     admit: &Admit,
     prober: &P,
-    decks: Vec<D>,
+    decks: &mut [D],
     workers: u32,
     budget: u64,
 ) -> Result<Answer, SearchFault>
@@ -113,7 +116,7 @@ pub fn worst_by<P: Prober + Sync, D: Hints + Drop + Send, R: Threads + Wait + Sy
     requires few { workers ≤ 64 }
     requires modest { budget ≤ 10000000 }
     requires held { length admit.now.held ≡ length circuit.now.netlist.inputs }
-    requires decks { length decks.items ≡ workers }
+    requires decks { length decks.old ≡ workers }
     ensures answer { IfOk result (IsAnswer (problem circuit.now admit.now) budget) }
     ensures text { IfOk result (CanBeWritten (problem circuit.now admit.now)) }
     ensures time { IfOk result (TimeNeedsStop false) }
@@ -126,8 +129,9 @@ pub fn worst_by<P: Prober + Sync, D: Hints + Drop + Send, R: Threads + Wait + Sy
     };
     let never = Stop::never();
     let limits = Limits::until(Effort { workers, budget }, &never);
+    let lent = lend(alloc, decks)?;
     let mut nobody = Unwatched;
-    let Ended { answer, .. } = search_by(rt, alloc, &problem, prober, decks, limits, &mut nobody)?;
+    let Ended { answer, .. } = search_by(rt, alloc, &problem, prober, lent, limits, &mut nobody)?;
     Ok(answer)
 }
 
@@ -290,22 +294,40 @@ fn search_all<
     ensures work { IfOk result (IsShared (problem_of task.now.problem.now)) }
     ensures reported { W.reported (problem_of task.now.problem.now) watch.old watch.new }
 {
-    let Task { alloc, problem, .. } = task;
-    let first = first_best(*alloc, problem, root.first)?;
-    let (incumbent, found) = starting_of(*alloc, problem, effort.workers, root.first)?;
-    let (ledger, share) = blank.open::<L>();
-    let shared = shared_of::<L, W>(*alloc, problem, effort, incumbent, ledger, root, watch)?;
-    let crew = Crew {
-        decks,
-        found,
-        share,
-    };
-    let all = found_watched(rt, task, &shared, crew, effort.workers, watch)?;
-    Ok(handed_over(*alloc, problem, shared, all, first, root))
+    let begun = begin::<L, W>(task.alloc, task.problem, effort, root, blank, watch)?;
+    Ok(go_on(rt, task, begun, decks, watch))
 }
 
-// What all workers find. The watch gets the progress meanwhile. The error is out of memory before
-// they begin.
+// What the workers find from there. Nothing is in the way of an answer any more.
+fn go_on<
+    L: Subject + Send + Sync,
+    Q: Rule + Sync,
+    D: Hints + Drop + Send,
+    W: Watch,
+    R: Threads + Wait + Sync,
+>(rt: &R, task: &Task<'_, Q>, begun: Begun<L>, decks: Vec<D>, watch: &mut W) -> SharedWork
+    requires asked { L.asked ≡ problem_of task.now.problem.now }
+    requires root { IsRoot (problem_of task.now.problem.now) begun.root }
+    requires first { IsBest (problem_of task.now.problem.now) begun.first }
+    requires crew { IsCrew (problem_of task.now.problem.now) begun.shared.incumbent begun.crew.workers begun.crew.found.items begun.crew.share.parts begun.crew.share.amount }
+    requires handles { begun.crew.handles.items ≡ [] }
+    requires all { begun.crew.all.items ≡ [] }
+    requires handles_space { begun.crew.workers ≤ vec_capacity begun.crew.handles }
+    requires all_space { begun.crew.workers ≤ vec_capacity begun.crew.all }
+    ensures work { IsShared (problem_of task.now.problem.now) result }
+    ensures reported { W.reported (problem_of task.now.problem.now) watch.old watch.new }
+{
+    let Begun {
+        shared,
+        first,
+        root,
+        crew,
+    } = begun;
+    let all = found_watched(rt, task, &shared, crew, decks, watch);
+    handed_over(task.alloc, task.problem, shared, all, first, root)
+}
+
+// What all workers find. The watch gets the progress meanwhile.
 fn found_watched<
     L: Subject + Send + Sync,
     Q: Rule + Sync,
@@ -316,17 +338,20 @@ fn found_watched<
     rt: &R,
     task: &Task<'_, Q>,
     shared: &Shared<L>,
-    crew: Crew<D, L>,
-    workers: u32,
+    crew: Crew<L>,
+    decks: Vec<D>,
     watch: &mut W,
-) -> Result<Vec<Report<L>>, AllocError>
+) -> Vec<Report<L>>
     requires asked { L.asked ≡ problem_of task.now.problem.now }
-    requires some { 0 < workers }
-    requires crew { IsCrew (problem_of task.now.problem.now) shared.now.incumbent workers crew.found.items crew.share.parts crew.share.amount }
-    ensures reports { IfOk result (λ all. AllByRecursion (λ report. IsTrueFound (problem_of task.now.problem.now) report.found) all.items) }
+    requires crew { IsCrew (problem_of task.now.problem.now) shared.now.incumbent crew.workers crew.found.items crew.share.parts crew.share.amount }
+    requires handles { crew.handles.items ≡ [] }
+    requires all { crew.all.items ≡ [] }
+    requires handles_space { crew.workers ≤ vec_capacity crew.handles }
+    requires all_space { crew.workers ≤ vec_capacity crew.all }
+    ensures reports { AllByRecursion (λ report. IsTrueFound (problem_of task.now.problem.now) report.found) result.items }
     ensures reported { W.reported (problem_of task.now.problem.now) watch.old watch.new }
 {
-    let (all, borrowed) = found_by_all(rt, task, shared, crew, workers, Borrowed { watch });
+    let (all, borrowed) = found_by_all(rt, task, shared, crew, decks, Borrowed { watch });
     let Borrowed { watch } = borrowed;
     take_back(watch);
     all
@@ -369,28 +394,27 @@ fn found_by_all<
     rt: &R,
     task: &Task<'_, Q>,
     shared: &Shared<L>,
-    crew: Crew<D, L>,
-    workers: u32,
+    crew: Crew<L>,
+    decks: Vec<D>,
     watch: W,
-) -> (Result<Vec<Report<L>>, AllocError>, W)
+) -> (Vec<Report<L>>, W)
     requires asked { L.asked ≡ problem_of task.now.problem.now }
-    requires some { 0 < workers }
-    requires crew { IsCrew (problem_of task.now.problem.now) shared.now.incumbent workers crew.found.items crew.share.parts crew.share.amount }
-    ensures reports { IfOk result.0 (λ all. AllByRecursion (λ report. IsTrueFound (problem_of task.now.problem.now) report.found) all.items) }
+    requires crew { IsCrew (problem_of task.now.problem.now) shared.now.incumbent crew.workers crew.found.items crew.share.parts crew.share.amount }
+    requires handles { crew.handles.items ≡ [] }
+    requires all { crew.all.items ≡ [] }
+    requires handles_space { crew.workers ≤ vec_capacity crew.handles }
+    requires all_space { crew.workers ≤ vec_capacity crew.all }
+    ensures reports { AllByRecursion (λ report. IsTrueFound (problem_of task.now.problem.now) report.found) result.0.items }
     ensures reported { W.reported (problem_of task.now.problem.now) watch result.1 }
 {
     let Crew {
-        decks,
+        workers,
         found,
         share,
+        handles,
+        all,
     } = crew;
-    let Ok(handles) = Vec::with_capacity(task.alloc, found.len()) else {
-        return (Err(AllocError), watch);
-    };
-    let Ok(all) = Vec::with_capacity(task.alloc, found.len()) else {
-        return (Err(AllocError), watch);
-    };
-    let (all, watch) = thread::scope(
+    thread::scope(
         thread::scope_env(),
         rt,
         |scope| -> (Vec<Report<L>>, W)
@@ -448,8 +472,7 @@ fn found_by_all<
             let all = join_all(rt, task.problem, handles, all);
             (all, watch)
         },
-    );
-    (Ok(all), watch)
+    )
 }
 
 // The worker of this number, with what it begins with.

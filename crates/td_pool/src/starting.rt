@@ -125,7 +125,9 @@ pub fn shared_of<L: Subject, W: Watch>(
     // For the prover: gates are in order.
     let _numbering = problem.circuit.gates();
     let pins = problem.admit.pins().copy(alloc)?;
-    let book = Book::new(alloc, pins, effort.workers, effort.budget)?;
+    let Ok(book) = Book::new(alloc, pins, effort.workers, effort.budget) else {
+        return Err(AllocError);
+    };
     let frontier = frontier_of::<L, W>(alloc, problem, root, watch)?;
     Ok(Shared {
         state: Mutex::new(State {

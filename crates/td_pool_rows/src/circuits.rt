@@ -190,7 +190,7 @@ pub fn found_by<D: Hints + Drop + Send, R: Threads + Wait + Sync + Abort>(
     rt: &R,
     alloc: Global,
     netlist: &str,
-    decks: Vec<D>,
+    mut decks: Vec<D>,
     workers: u32,
 ) -> Result<Reported, Fail> {
     assert!(rt; 0 < workers && workers <= 64);
@@ -202,7 +202,7 @@ pub fn found_by<D: Hints + Drop + Send, R: Threads + Wait + Sync + Abort>(
         &asked.circuit,
         &asked.admit,
         &Own,
-        decks,
+        &mut decks,
         workers,
         1_000_000,
     ))

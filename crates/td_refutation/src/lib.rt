@@ -1,6 +1,11 @@
 //! Refutations: lines that show that no admitted pair of a cube changes an output later than a
 //! moment. A line is a letter and numbers, as a certificate has it; what it means is said by
 //! clauses on spans of places at which nets keep a level.
+//!
+//! ```text
+//! lines ──Refutation::step (letter, numbers)──▶ a step of td_spans │ Flaw of the first bad line
+//! all lines ──refuted──▶ Shown: the bound, and whether no pair is left
+//! ```
 #![tactic(auto)]
 
 mod conditions;

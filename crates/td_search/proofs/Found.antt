@@ -91,3 +91,10 @@ pub usable_more : (best : ℕ) (findings : List Finding) (i : ℕ) (f : Finding)
     → AllByRecursion (IsUsable best) (take (i + 1) findings)
 usable_more best findings i f is h u =
     subst (λ (n : ℕ). AllByRecursion (IsUsable best) (take n findings)) (sym (next_is i)) (more_usable best findings i f is h u)
+
+-- each of the first n is usable
+pub usable_at : (best : ℕ) (findings : List Finding) (i n : ℕ) (f : Finding) → slice_get findings i ≡ Some f → i + 1 ≤ n → AllByRecursion (IsUsable best) (take n findings) → IsUsable best f
+usable_at best [] i n f is low h = cc
+usable_at best (g ∷ findings) i zero f is low h = absurd (omega (arith, low))
+usable_at best (g ∷ findings) zero (suc n) f is low h = let same : g ≡ f = cc in subst (IsUsable best) same h.0
+usable_at best (g ∷ findings) (suc i) (suc n) f is low h = usable_at best findings i n f is (omega (arith, low)) h.1

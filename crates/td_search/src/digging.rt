@@ -6,6 +6,7 @@ ghost use Rattle.td_search.specs.Below.{IsBelow, IsWithin};
 ghost use Rattle.td_search.specs.Findings.{IsTrueFinding, IsUsable};
 ghost use Rattle.td_search.specs.Problems.{problem_of};
 ghost use Rattle.td_search.specs.Progress.{IsUnderWay};
+ghost use Rattle.td_search.specs.Redone.{IsLater};
 
 use crate::below::Below;
 use crate::finding::find;
@@ -25,6 +26,7 @@ impl Search {
         requires scratch { R.is_for scratch.old task.now.problem.now.circuit.now }
         ensures search { IsUnderWay (problem_of task.now.problem.now) budget self.new }
         ensures kept { self.old.best.time ≤ self.new.best.time }
+        ensures later { IsLater self.old.book self.new.book }
     {
         for _ in 0..budget {
             if task.stop.is_set() {
@@ -47,6 +49,7 @@ impl Search {
         requires scratch { R.is_for scratch.old task.now.problem.now.circuit.now }
         ensures search { IsUnderWay (problem_of task.now.problem.now) self.old.book.budget self.new }
         ensures kept { self.old.best.time ≤ self.new.best.time }
+        ensures later { IsLater self.old.book self.new.book }
         ensures scratch { R.is_for scratch.new task.now.problem.now.circuit.now }
     {
         let Claim::Lease(lease) = self.book.claim(0)? else {
@@ -69,6 +72,7 @@ impl Search {
         requires within { IsWithin (problem_of task.now.problem.now) lease.cube }
         ensures search { IsUnderWay (problem_of task.now.problem.now) self.old.book.budget self.new }
         ensures kept { self.old.best.time ≤ self.new.best.time }
+        ensures later { IsLater self.old.book self.new.book }
         ensures scratch { R.is_for scratch.new task.now.problem.now.circuit.now }
     {
         let mut below = Below::new(task.alloc, task.problem, &lease)?;

@@ -1,14 +1,18 @@
 //! Does again in a search what workers did in a shared one, as far as their evidence shows it.
 
-ghost use Rattle.std.specs.Prelude.{◌≡◌, ◌<◌, ◌≤◌, ◌^◌, false, List, [], ◌∷◌, ◌++◌, length, map, take, slice_get, Some, ◌↔◌, IsTrue, IfOk, IfSome};
+ghost use Rattle.std.specs.Prelude.{◌≡◌, ℕ, ◌<◌, ◌≤◌, ◌^◌, false, List, [], ◌∷◌, ◌++◌, length, map, take, slice_get, Some, true, ◌↔◌, IsTrue, IfOk, IfSome, OnOk};
 ghost use Rattle.std.specs.List.{All};
 ghost use Rattle.td_domain.specs.declared.cubes.Trit.{Trit};
 ghost use Rattle.td_domain.specs.declared.cubes.Trit.TheVariants.{Free};
+ghost use Rattle.td_book.specs.declared.node.Node.{Node};
+ghost use Rattle.td_book.specs.Board.{is_handled};
+ghost use Rattle.td_book.specs.Claimed.{ClaimedAt};
 ghost use Rattle.td_book.specs.Grafting.{cubes_left};
 ghost use Rattle.td_search.specs.Findings.{IsTrueFinding, IsUsable, AreTrueFindings, IsTrueEvidence, IsTrueTrail, state_of};
 ghost use Rattle.td_search.specs.Below.{IsWithin};
 ghost use Rattle.td_search.specs.Problems.{problem_of, has_bound};
 ghost use Rattle.td_search.specs.Progress.{IsUnderWay, MustSplit};
+ghost use Rattle.td_search.specs.Redone.{AreRedone, AreUsable, IsLater, RedoesRoot};
 
 use crate::findings::{Evidence, Finding, Trail};
 use crate::problem::Problem;
@@ -25,6 +29,13 @@ fn is_free_at(cube: &Cube, position: usize) -> bool
     ensures { IsTrue result → slice_get cube.now position ≡ Some Free }
 {
     position < cube.len() && cube.trit(position) == Trit::Free
+}
+
+/// Whether a node was split or closed.
+pub fn is_done(state: State) -> bool
+    ensures { result ≡ is_handled state }
+{
+    matches!(state, State::Split(_) | State::Closed(_, _, _))
 }
 
 /// Splits or closes the next node of a private tree as it was found of its cube, if that is usable
@@ -54,11 +65,15 @@ fn dig_again(problem: &Problem<'_>, subtree: &mut Subtree, findings: &[Finding],
     ensures subtree { subtree.new ≡ record subtree.old { states = map (state_of best) (take result findings.now) } }
     ensures usable { All (IsUsable best) (take result findings.now) }
     ensures few { result ≤ subtree.old.allowance }
+    ensures whole { (n : ℕ) → AreUsable best n findings.now → n ≤ subtree.old.allowance → n ≤ result }
 {
     let mut count = 0;
     for finding in findings {
-        if subtree.is_full() || !dig_by(problem, subtree, *finding, best) {
-            break;
+        if subtree.is_full() {
+            return count;
+        }
+        if !dig_by(problem, subtree, *finding, best) {
+            return count;
         }
         count += 1;
     }
@@ -107,13 +122,47 @@ impl Search {
         requires trail { IsTrueTrail (problem_of task.now.problem.now) trail.now }
         ensures search { IsUnderWay (problem_of task.now.problem.now) self.old.book.budget self.new }
         ensures kept { self.old.best.time ≤ self.new.best.time }
+        ensures later { IsLater self.old.book self.new.book }
+        ensures root { (first : Node) → slice_get nodes.now 0 ≡ Some first → OnOk result (RedoesRoot trail.now self.old.best.time first.number first.state self.old.book self.new.book) }
         ensures scratch { R.is_for scratch.new task.now.problem.now.circuit.now }
     {
-        // By their numbers in this search the trees that come next, the first of them last. Those
-        // that are passed have none.
+        if nodes.is_empty() {
+            return Ok(());
+        }
         let mut coming = Vec::with_capacity(task.alloc, 1)?;
-        coming.push_reserved(Some(0));
-        let mut done = 0;
+        let count = self.replay_node(task, scratch, Some(0), nodes[0], trail, &mut coming)?;
+        self.replay_all(
+            task,
+            scratch,
+            &nodes[1..],
+            trail,
+            coming,
+            count.saturating_sub(1),
+        )
+    }
+
+    // As `replay`, of the nodes after the root, of which that many are done. By their numbers in
+    // this search the trees that come next are there, the first of them last. Those that are passed
+    // have none.
+    fn replay_all<R: Rule>(
+        &mut self,
+        task: &Task<'_, R>,
+        scratch: &mut R::Scratch,
+        nodes: &[Node],
+        trail: &Trail,
+        coming: Vec<Option<u32>>,
+        done: usize,
+    ) -> Result<(), AllocError>
+        requires search { IsUnderWay (problem_of task.now.problem.now) self.old.book.budget self.old }
+        requires scratch { R.is_for scratch.old task.now.problem.now.circuit.now }
+        requires trail { IsTrueTrail (problem_of task.now.problem.now) trail.now }
+        ensures search { IsUnderWay (problem_of task.now.problem.now) self.old.book.budget self.new }
+        ensures kept { self.old.best.time ≤ self.new.best.time }
+        ensures later { IsLater self.old.book self.new.book }
+        ensures scratch { R.is_for scratch.new task.now.problem.now.circuit.now }
+    {
+        let mut coming = coming;
+        let mut done = done;
         for node in nodes {
             if done > 0 {
                 done -= 1;
@@ -144,6 +193,8 @@ impl Search {
         requires trail { IsTrueTrail (problem_of task.now.problem.now) trail.now }
         ensures search { IsUnderWay (problem_of task.now.problem.now) self.old.book.budget self.new }
         ensures kept { self.old.best.time ≤ self.new.best.time }
+        ensures later { IsLater self.old.book self.new.book }
+        ensures root { number ≡ Some 0 → OnOk result (RedoesRoot trail.now self.old.best.time node.number node.state self.old.book self.new.book) }
         ensures scratch { R.is_for scratch.new task.now.problem.now.circuit.now }
     {
         let again = Again {
@@ -175,6 +226,8 @@ impl Search {
         requires evidence { IsTrueEvidence (problem_of task.now.problem.now) evidence.now }
         ensures search { IsUnderWay (problem_of task.now.problem.now) self.old.book.budget self.new }
         ensures kept { self.old.best.time ≤ self.new.best.time }
+        ensures later { IsLater self.old.book self.new.book }
+        ensures redone { OnOk result (AreRedone self.old.best.time lease.allowance evidence.now.findings.items self.old.book self.new.book) }
         ensures scratch { R.is_for scratch.new task.now.problem.now.circuit.now }
     {
         let done = self.graft_again(task.alloc, task.problem, lease, evidence, coming)?;
@@ -197,6 +250,7 @@ impl Search {
         requires scratch { R.is_for scratch.old task.now.problem.now.circuit.now }
         ensures search { IsUnderWay (problem_of task.now.problem.now) self.old.book.budget self.new }
         ensures kept { self.old.best.time ≤ self.new.best.time }
+        ensures later { IsLater self.old.book self.new.book }
         ensures scratch { R.is_for scratch.new task.now.problem.now.circuit.now }
     {
         let Some(lease) = self.lease_again(task.problem, again)? else {
@@ -219,6 +273,7 @@ impl Search {
         requires within { IsWithin (problem_of task.now.problem.now) lease.cube }
         ensures search { IsUnderWay (problem_of task.now.problem.now) self.old.book.budget self.new }
         ensures kept { self.old.best.time ≤ self.new.best.time }
+        ensures later { IsLater self.old.book self.new.book }
         ensures scratch { R.is_for scratch.new task.now.problem.now.circuit.now }
     {
         let State::Split(position) = state else {
@@ -242,13 +297,19 @@ impl Search {
         requires search { IsUnderWay (problem_of problem.now) self.old.book.budget self.old }
         ensures search { IsUnderWay (problem_of problem.now) self.old.book.budget self.new }
         ensures kept { self.old.best.time ≤ self.new.best.time }
+        ensures later { IsLater self.old.book self.new.book }
+        ensures best { self.new.best ≡ self.old.best }
+        ensures claimed { (n : ℕ) → again.number ≡ Some n → is_handled again.state ≡ true → IfOk result (λ answer. ClaimedAt self.old.book 0 n answer self.new.book) }
         ensures worker { IfOk result (λ answer. IfSome answer (λ lease. lease.worker ≡ 0)) }
         ensures within { IfOk result (λ answer. IfSome answer (λ lease. IsWithin (problem_of problem.now) lease.cube)) }
     {
-        match (again.number, again.state) {
-            (Some(number), State::Split(_) | State::Closed(_, _, _)) => self.lease(problem, number),
-            _ => Ok(None),
+        let Some(number) = again.number else {
+            return Ok(None);
+        };
+        if !is_done(again.state) {
+            return Ok(None);
         }
+        self.lease(problem, number)
     }
 
     // Splits and closes below a leaf what there is evidence of, and answers how many nodes that
@@ -266,6 +327,8 @@ impl Search {
         requires evidence { IsTrueEvidence (problem_of problem.now) evidence.now }
         ensures search { IsUnderWay (problem_of problem.now) self.old.book.budget self.new }
         ensures kept { self.old.best.time ≤ self.new.best.time }
+        ensures later { IsLater self.old.book self.new.book }
+        ensures redone { OnOk result (AreRedone self.old.best.time lease.allowance evidence.now.findings.items self.old.book self.new.book) }
     {
         let grafted = self.graft_found(alloc, problem, lease, &evidence.findings)?;
         let Some((count, left)) = grafted else {
@@ -289,6 +352,9 @@ impl Search {
         requires found { AreTrueFindings (problem_of problem.now) (lease.cube ∷ []) findings.now }
         ensures search { IsUnderWay (problem_of problem.now) self.old.book.budget self.new }
         ensures kept { self.old.best.time ≤ self.new.best.time }
+        ensures later { IsLater self.old.book self.new.book }
+        // All that is usable is done again, as far as the lease allows.
+        ensures redone { OnOk result (AreRedone self.old.best.time lease.allowance findings.now self.old.book self.new.book) }
     {
         let mut subtree = match Subtree::new(alloc, &lease) {
             Ok(subtree) => subtree,
@@ -327,6 +393,7 @@ impl Search {
         requires within { IsWithin (problem_of task.now.problem.now) lease.cube }
         ensures search { IsUnderWay (problem_of task.now.problem.now) self.old.book.budget self.new }
         ensures kept { self.old.best.time ≤ self.new.best.time }
+        ensures later { IsLater self.old.book self.new.book }
         ensures scratch { R.is_for scratch.new task.now.problem.now.circuit.now }
     {
         let position = position as usize;

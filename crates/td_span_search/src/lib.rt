@@ -2,9 +2,10 @@
 //! asked about, and steps that show that none is later, or that there is no pair.
 //!
 //! ```text
-//! schedule ──question──▶ solver ──model──▶ pair ──▶ waves ──not later──▶ explanation ──clauses──▶ solver
-//!     ▲                     │ refuted                  │ later
-//!     └────── bounds ◀──────┴──────── best pair ◀──────┘
+//! schedule ──question──▶ solver ──model──▶ pair ──▶ waves ──not later──▶ explanation
+//!     ▲                   ▲ │ refuted                 │ later               │
+//!     └────── bounds ◀────│─┴──────── best pair ◀─────┘                     │
+//!                         └────────────── clauses ◀─────────────────────────┘
 //! ```
 //!
 //! A literal says that a net is at a level at all places of a span. A question asks whether an
@@ -37,6 +38,7 @@ mod reach;
 mod record;
 mod refinement;
 mod refutation;
+mod renumbering;
 mod round;
 mod schedule;
 mod search;
@@ -44,6 +46,7 @@ mod source;
 mod span;
 mod spans;
 mod spelling;
+mod steps;
 mod sweep;
 mod team;
 mod tree;

@@ -4,148 +4,16 @@ use crate::levels::at_level;
 use crate::network::{Net, Node};
 use crate::record::{Axiom, Holds, Kept, Note};
 use crate::refutation::{Refutation, Step};
+use crate::renumbering::renumbered;
 use crate::search::Meaning;
 use crate::source::Source;
-use crate::span::Span;
-use crate::spans::Spans;
+use crate::steps::{Named, Spelling, level_place, settled_place};
 use crate::trim::{Mark, Trim};
 use std::alloc::{AllocError, Global};
-use td_cdcl::{ClauseNumber, Literal, literal_at, opposite, read, small, variable_of, write_at};
-
-/// A clause that gives a span of a contracted net, and the literals that give it.
-#[derive(Drop)]
-struct Known {
-    body: Vec<Literal>,
-    name: ClauseNumber,
-}
-
-/// A literal of a contracted net, and the clause that gives it.
-#[derive(Clone, Copy, Drop)]
-struct Named {
-    literal: Literal,
-    name: ClauseNumber,
-}
-
-/// Steps in the making. Its variables are those of the search, and after them those of contracted
-/// nets.
-#[derive(Drop)]
-pub struct Spelling {
-    alloc: Global,
-    meanings: Vec<Meaning>,
-    first_own: usize,
-    steps: Vec<Step>,
-    clauses: ClauseNumber,
-    // By clause of the proof its number among the steps.
-    names: Vec<ClauseNumber>,
-    // The spans of contracted nets; by own variable the clauses that give it.
-    spans: Spans,
-    known: Vec<Vec<Known>>,
-    // By link, once it is spelled.
-    links: Vec<Option<Named>>,
-    // By twice the net, and one more for last levels: the literal that a contracted net is at 1.
-    levels: Vec<Option<Literal>>,
-    // By four times the net, two more for last levels, one more for level 1: the clause that gives
-    // it.
-    settled: Vec<Option<ClauseNumber>>,
-}
-
-fn level_place(net: Net, is_last: bool) -> usize {
-    (net as usize)
-        .saturating_mul(2)
-        .saturating_add(usize::from(is_last))
-}
-
-fn settled_place(net: Net, is_last: bool, level: bool) -> usize {
-    level_place(net, is_last)
-        .saturating_mul(2)
-        .saturating_add(usize::from(level))
-}
-
-impl Spelling {
-    fn new(
-        alloc: Global,
-        meanings: &[Meaning],
-        nets: usize,
-        clauses: usize,
-        links: usize,
-    ) -> Result<Spelling, AllocError> {
-        Ok(Spelling {
-            alloc,
-            meanings: Vec::from_slice(alloc, meanings)?,
-            first_own: meanings.len(),
-            steps: Vec::new(alloc),
-            clauses: 0,
-            names: vec![in alloc; 0u32; clauses]?,
-            spans: Spans::new(alloc, nets)?,
-            known: Vec::new(alloc),
-            links: vec![in alloc; None; links]?,
-            levels: vec![in alloc; None; nets.saturating_mul(2)]?,
-            settled: vec![in alloc; None; nets.saturating_mul(4)]?,
-        })
-    }
-
-    // Adds a step that adds a clause. Answers the clause's number.
-    fn add(&mut self, step: Step) -> Result<ClauseNumber, AllocError> {
-        let name = self.clauses;
-        self.steps.push(step)?;
-        self.clauses = self.clauses.saturating_add(1);
-        Ok(name)
-    }
-
-    fn own_variable(&mut self, meaning: Meaning) -> Result<Literal, AllocError> {
-        let variable = small(self.meanings.len());
-        self.meanings.push(meaning)?;
-        self.known.push(Vec::new(self.alloc))?;
-        Ok(literal_at(variable, true))
-    }
-
-    // The literal of a contracted net's span.
-    fn span_literal(&mut self, span: Span) -> Result<Literal, AllocError> {
-        if let Some(variable) = self.spans.find(span) {
-            return Ok(literal_at(variable, true));
-        }
-        let literal = self.own_variable(Meaning::Span(span))?;
-        self.spans.insert(span, variable_of(literal))?;
-        Ok(literal)
-    }
-
-    // The clause that gives an own variable by this body, made where it isn't there.
-    fn give(&mut self, literal: Literal, body: Vec<Literal>) -> Result<ClauseNumber, AllocError> {
-        let place = (variable_of(literal) as usize).saturating_sub(self.first_own);
-        if let Some(known) = self.known.get(place) {
-            for clause in known {
-                if clause.body.as_slice() == body.as_slice() {
-                    return Ok(clause.name);
-                }
-            }
-        }
-        let clause = clause_of(self.alloc, literal, &body)?;
-        let name = self.add(Step::Gate(clause))?;
-        if let Some(known) = self.known.get_mut(place) {
-            known.push(Known { body, name })?;
-        }
-        Ok(name)
-    }
-
-    // The literals of what holds, whose links are spelled.
-    fn body(&self, holds: &[Holds]) -> Result<Vec<Literal>, AllocError> {
-        let mut body = Vec::new(self.alloc);
-        for held in holds {
-            match held {
-                Holds::Literal(literal) => body.push(*literal)?,
-                Holds::Link(link) => {
-                    if let Some(named) = read(&self.links, *link as usize, None) {
-                        body.push(named.literal)?;
-                    }
-                }
-            }
-        }
-        Ok(body)
-    }
-}
+use td_cdcl::{ClauseNumber, Literal, opposite, read, small, write_at};
 
 // The clause that says a literal, where those of the body are true.
-fn clause_of(
+pub(crate) fn clause_of(
     alloc: Global,
     literal: Literal,
     body: &[Literal],
@@ -176,7 +44,12 @@ impl<'b> Source<'b> {
             mark = self.spell_marks(number, mark, &trim, &mut spelling)?;
             self.spell_clause(number, &trim, &mut spelling)?;
         }
-        renumbered(self.alloc, spelling, self.contradiction.is_some())
+        let Spelling {
+            meanings,
+            steps,
+            ..
+        } = spelling;
+        renumbered(self.alloc, &meanings, steps, self.contradiction.is_some())
     }
 
     // Spells the lowered ends before a clause. Answers the place of the next one.
@@ -529,89 +402,5 @@ impl Spelling {
         };
         used.push(name)?;
         Ok(literal)
-    }
-}
-
-/// How often a variable is used.
-#[derive(Clone, Copy, Drop)]
-struct Use {
-    rank: u64,
-    variable: u32,
-}
-
-// Numbers the variables anew, those first that are used most, and leaves out the others.
-fn renumbered(alloc: Global, spelling: Spelling, is_empty: bool) -> Result<Refutation, AllocError> {
-    let Spelling {
-        meanings,
-        mut steps,
-        ..
-    } = spelling;
-    let mut counts = vec![in alloc; 0u64; meanings.len()]?;
-    for step in &steps {
-        for literal in literals_of(step) {
-            let variable = variable_of(*literal) as usize;
-            let count = read(&counts, variable, 0);
-            write_at(&mut counts, variable, count.saturating_add(1));
-        }
-    }
-    let mut uses = Vec::new(alloc);
-    for (variable, count) in counts.iter().enumerate() {
-        if *count > 0 {
-            uses.push(Use {
-                rank: u64::MAX.saturating_sub(*count),
-                variable: small(variable),
-            })?;
-        }
-    }
-    uses.sort_unstable_by_key(|used| (used.rank, used.variable));
-    let mut variables = Vec::new(alloc);
-    let mut numbers = vec![in alloc; 0u32; meanings.len()]?;
-    for (number, used) in uses.iter().enumerate() {
-        write_at(&mut numbers, used.variable as usize, small(number));
-        if let Some(meaning) = meanings.get(used.variable as usize) {
-            variables.push(*meaning)?;
-        }
-    }
-    for step in steps.iter_mut() {
-        renumber(step, &numbers);
-    }
-    Ok(Refutation {
-        variables,
-        steps,
-        is_empty,
-    })
-}
-
-/// The literals of a step's clause.
-fn literals_of(step: &Step) -> &[Literal] {
-    match step {
-        Step::Gate(clause)
-        | Step::Table(clause)
-        | Step::Net(clause)
-        | Step::Pairs(clause)
-        | Step::Keep(clause)
-        | Step::Lemma(clause, _)
-        | Step::End { clause, .. } => clause,
-        Step::Again(_) => &[],
-    }
-}
-
-fn renumber(step: &mut Step, numbers: &[u32]) {
-    match step {
-        Step::Gate(clause)
-        | Step::Table(clause)
-        | Step::Net(clause)
-        | Step::Pairs(clause)
-        | Step::Keep(clause)
-        | Step::Lemma(clause, _)
-        | Step::End { clause, .. } => renumber_all(clause, numbers),
-        Step::Again(_) => {}
-    }
-}
-
-fn renumber_all(clause: &mut [Literal], numbers: &[u32]) {
-    for literal in clause.iter_mut() {
-        let number = read(numbers, variable_of(*literal) as usize, 0);
-        *literal = literal_at(number, *literal % 2 == 0);
     }
 }

@@ -1,5 +1,14 @@
 //! Spans: steps that show that no pair of a cube that is asked about changes an output later than a
 //! moment, or that there is none, by clauses on spans of places at which nets keep a level.
+//!
+//! ```text
+//! Variable: net n starts at 1 │ ends at 1 │ is at v at all places a..b │ at most k inputs differ
+//! gate, table, net, pair, condition ──▶ clause that each run makes true ──lemma──▶ clause
+//! clause ──end──▶ net n keeps v from place a on ──▶ bound of the outputs │ the empty clause
+//! ```
+//!
+//! Places are the moments at which a net may change. Each step is accepted exactly where its
+//! condition holds, memory aside; what is accepted is true of each run of the question.
 #![tactic(auto)]
 
 mod condition;

@@ -1,4 +1,12 @@
 //! The worst delay of a circuit, by a tree of cubes, by a refutation, or by one after the other.
+//!
+//! ```text
+//! Question, Method ──▶ least │ lead │ refute │ auto: these in turns, from the best so far
+//!          ──▶ Found: exact or between, the pair, the cause, the evidence
+//! ```
+//!
+//! The upper figure is at most the bound by edges, and at most each figure shown before. With
+//! conditions (`KeptQuestion`) trees end at once, and refutations answer.
 #![tactic(auto)]
 
 mod combining;

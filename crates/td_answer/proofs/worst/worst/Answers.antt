@@ -8,13 +8,14 @@ use Rattle.td_worst.proofs.Outcomes.{outcome_by}
 use Rattle.td_question.proofs.Questions.{asked_held, asked_flips}
 use Rattle.td_answer.specs.OpenCertificates.{told_with}
 use Rattle.std.specs.Prelude.{is_some}
+use Rattle.td_answer.specs.Answered.{IsPrintOfSearch}
 use Rattle.td_answer.specs.Conditions.{IsTrueSearch, IsCertifiedFor}
 use Rattle.td_answer.specs.Kept.{IsTrueKept, IsCertifiedAmong}
 use Rattle.td_answer.specs.Lines.{pair_in}
 use Rattle.td_answer.specs.Runs.{RunsPair}
 use Rattle.td_answer.proofs.Writable.{searched_written}
 use Rattle.td_answer.proofs.Listing.{no_rows}
-use Rattle.td_answer.proofs.Chosen.{without, with_some, true_without, true_with, certified_without, certified_with}
+use Rattle.td_answer.proofs.Chosen.{without, with_some, true_without, true_with, certified_without, certified_with, printed_without, printed_with}
 use Rattle.td_answer.proofs.Searched.{pair_fits, figures_of, says, certified, refused}
 use Rattle.td_answer.proofs.worst.worst.Goals as goal
 
@@ -110,3 +111,27 @@ returns-then-not-is_empty-clause-certified g c =
     (with_some c.args.search.now.question c.in_ok-asked.asked.circuit.netlist c.in_ok-asked.asked.keep.items c.in_ok-asked.ensures.keep
     (λ none. eqb-false _ _ (sym c.is_empty.ensures ∙ c.if-not-is_empty.true) (c.in_ok-asked.asked.keep.ok.0 ∙ ap (λ keep. length keep) none))) is)
     c.worst_kept.ensures.certified
+
+pub returns-clause-answered : goal.returns-clause-answered
+returns-clause-answered g c =
+    printed_without c.args.text.now c.args.reading.now c.args.search.now c.in_ok-outcome.outcome (without c.args.search.now.question c.in_ok-asked.asked.circuit.netlist c.in_ok-asked.asked.keep.items c.in_ok-asked.ensures.keep
+    (no_rows c.in_ok-asked.asked.keep.items (sym c.in_ok-asked.asked.keep.ok.0 ∙ eqb-true _ _ (sym c.is_empty.ensures ∙ c.if-not-is_empty.false))))
+    (record {
+      setting = setting c.in_ok-asked.asked.circuit;
+      admit = c.in_ok-asked.asked.admit;
+      asked = c.in_ok-asked.ensures.asked;
+      found = c.in_ok-found.found.answer;
+      answer = rw (c.method_of-method.ensures, c.limits_of-limits.ensures.budget) at c.in_ok-found.ensures.answer;
+      ended = record { search = c.args.search; was_asked = c.was_asked.result; work = c.in_ok-found.found.work };
+      of = refl;
+      more = c.in_ok-outcome.ensures.report.0;
+      printed = c.in_ok-outcome.ensures.report.1;
+    })
+
+pub returns-then-not-is_empty-clause-answered : goal.returns-then-not-is_empty-clause-answered
+returns-then-not-is_empty-clause-answered g c =
+    IfOk-weaker c.worst_kept.result (IsTrueKept c.args.text.now c.args.reading.now c.args.search.now) (IsPrintOfSearch c.args.text.now c.args.reading.now c.args.search.now)
+    (λ outcome is. printed_with c.args.text.now c.args.reading.now c.args.search.now outcome
+    (with_some c.args.search.now.question c.in_ok-asked.asked.circuit.netlist c.in_ok-asked.asked.keep.items c.in_ok-asked.ensures.keep
+    (λ none. eqb-false _ _ (sym c.is_empty.ensures ∙ c.if-not-is_empty.true) (c.in_ok-asked.asked.keep.ok.0 ∙ ap (λ keep. length keep) none))))
+    c.worst_kept.ensures.says

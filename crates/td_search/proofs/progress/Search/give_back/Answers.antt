@@ -1,5 +1,6 @@
 use Rattle.td_search.specs.Problems.{problem_of}
 use Rattle.td_search.proofs.Going.{released_or}
+use Rattle.td_search.proofs.Later.{released_later}
 use Rattle.td_search.proofs.progress.Search.give_back.Goals as goal
 
 pub returns-clause-search : goal.returns-clause-search
@@ -10,3 +11,6 @@ returns-clause-search c =
       c.requires.1,
       c.requires.2,
     )
+
+pub returns-clause-later : goal.returns-clause-later
+returns-clause-later c = released_later c.args.self.now.book c.release-opened.new.self c.args.lease c.release-opened.result _ (λ y h. h.1.0) c.release-opened.ensures

@@ -5,6 +5,7 @@ use Rattle.td_search.specs.Problems.{problem_of}
 use Rattle.td_search.specs.Progress.{IsSearch}
 use Rattle.td_search.proofs.Found.{side_long}
 use Rattle.td_search.proofs.Going.{grafts}
+use Rattle.td_search.proofs.Later.{grafted_more}
 use Rattle.td_search.proofs.progress.Search.graft.Goals as goal
 
 pub returns-in-Ok-graft-clause-search : goal.returns-in-Ok-graft-clause-search
@@ -27,3 +28,12 @@ returns-in-Ok-graft-clause-search c =
       record { no_nodes = space.no_nodes; no_lines = space.no_lines; for_nodes = omega arith; for_lines = omega arith },
       c.requires.search.2,
     )
+
+pub returns-in-Ok-graft-clause-more : goal.returns-in-Ok-graft-clause-more
+returns-in-Ok-graft-clause-more c =
+    let s = c.args.self.now in
+    grafted_more (problem_of c.args.problem.now) s.best.time s.book c.args.lease c.args.subtree c.in-Ok-graft.left.items c.graft.new.self c.args.findings.now c.requires.cube c.requires.states
+    c.requires.found (recursion_from_All _ c.args.findings.now c.requires.usable) c.in-Ok-graft.ensures.ok
+
+pub returns-in-Ok-graft-clause-later : goal.returns-in-Ok-graft-clause-later
+returns-in-Ok-graft-clause-later c = let more = returns-in-Ok-graft-clause-more c in omega arith

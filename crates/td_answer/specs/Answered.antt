@@ -1,0 +1,43 @@
+-- What the report of a search says of the search: its figures, its cause and its nodes are those of
+-- an answer by the strategy, within the budget.
+use Rattle.std.specs.Prelude.{◌≡◌, ℕ, Bool, true, false, List, ◌++◌, Option, Some, None}
+use Rattle.td_circuit.specs.Settings.{Setting}
+use Rattle.td_domain.specs.Admits.{Admitted}
+use Rattle.td_reading.specs.declared.reading.Reading.{Reading}
+use Rattle.td_request.specs.declared.request.Search.{Search}
+use Rattle.td_request.specs.declared.request.Table.{Table}
+use Rattle.td_question.specs.Asking.{IsAsked}
+use Rattle.td_search.specs.declared.answers.Answer.{Answer}
+use Rattle.td_worst.specs.Methods.{IsAnswerBy, tree_of}
+use Rattle.td_lines.specs.declared.line.Line.{Line}
+use Rattle.td_answer.specs.Heads.{head_lines}
+use Rattle.td_answer.specs.Kept.{has_conditions}
+use Rattle.td_answer.specs.Lines.{answer_lines}
+use Rattle.td_answer.specs.Methods.{method_of}
+use Rattle.td_answer.specs.declared.ended.Ended.{Ended}
+use Rattle.td_answer.specs.declared.outcome.Outcome.{Outcome}
+
+-- the report begins with the lines of an answer by the strategy's method, within the budget
+pub record PrintsAnswer (text : List ℕ) (reading : Reading) (search : Search) (outcome : Outcome) : Type 0 where
+  pub setting : Setting
+  pub admit : Admitted
+  pub asked : IsAsked text reading search.question setting admit
+  pub found : Answer
+  pub answer : IsAnswerBy (method_of search.strategy) (record { setting = setting; admit = admit; strategy = tree_of (method_of search.strategy) }) search.effort.budget found
+  pub ended : Ended
+  pub of : ended.search.now ≡ search
+  pub more : List Line
+  pub printed : outcome.report ≡ (head_lines setting.netlist ++ answer_lines ended found) ++ more
+
+-- where no conditions are given
+abbrev pub PrintsAnswerBy : Bool → List ℕ → Reading → Search → Outcome → Type 0
+PrintsAnswerBy false text reading search outcome = PrintsAnswer text reading search outcome
+PrintsAnswerBy true text reading search outcome = Unit {0}
+
+abbrev pub IsPrintOfSearch : List ℕ → Reading → Search → Outcome → Type 0
+IsPrintOfSearch text reading search outcome = PrintsAnswerBy (has_conditions search.question) text reading search outcome
+
+-- and no table is asked for
+abbrev pub IsPrintOfTable : Option Table → List ℕ → Reading → Search → Outcome → Type 0
+IsPrintOfTable None text reading search outcome = IsPrintOfSearch text reading search outcome
+IsPrintOfTable (Some table) text reading search outcome = Unit {0}
