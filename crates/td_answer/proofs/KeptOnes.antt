@@ -173,7 +173,7 @@ module _ (circuit : Numbered) (admit : Admitted) (told : Told) (ended : Ended) (
       asked = subst (λ (a : Admitted). IsAskedKeeping text reading search.question (setting circuit) (record { admit = a; keep = told.keep.items })) (sym same_admit) asked;
       terms = (are_outputs, same);
       accepted = is.accepted (kept_terms told) refl;
-      written = (is.written (kept_terms told) refl (terms is.told) (few is.few)).0;
+      written = is.written (kept_terms told) refl (terms is.told) (few is.few);
     }
 
     -- a certificate with what it shows, where the outcome has it

@@ -1,30 +1,15 @@
 -- What is found of an output says truly how a required moment stands.
-use Rattle.std.proofs.Common.{◌≡◌, ℕ, ◌<◌, ◌≤◌, Bool, true, false, cond, refl, arith}
-use Rattle.std.proofs.lemmas.Bool.{leb-true, ltb-true}
-use Rattle.std.specs.Prelude.{Option, Some, None, nat_le, nat_lt}
+use Rattle.std.proofs.Common.{ℕ, ◌<◌, ◌≤◌, refl, arith}
+use Rattle.std.specs.Prelude.{Option, Some, None}
 use Rattle.td_circuit.specs.Settings.{Setting}
 use Rattle.td_refutation.specs.Asking.{Asking}
 use Rattle.td_refute.specs.Kept.{IsBoundAmong}
 use Rattle.td_lines.specs.declared.line.Found.{Found}
 use Rattle.td_lines.specs.declared.line.Found.TheVariants as found
-use Rattle.td_lines.specs.declared.line.Standing.TheVariants.{Met, Violated, Open}
 use Rattle.td_answer.specs.Findings.{IsTrueFound}
 use Rattle.td_answer.specs.Requirements.{standing_of, requirement_of, IsStanding}
 use Rattle.td_answer.specs.Tables.{SaysStanding, SomeHas}
-
--- none is later than the upper figure, and one has the lower one, where that is late
-by_two : (bounded late : ℕ → Type 0) → ((one other : ℕ) → one ≤ other → bounded one → bounded other) → (moment low high : ℕ)
-    → bounded high → (moment < low → late low) → IsStanding bounded late moment (standing_of moment low high)
-by_two bounded late more moment low high is has = go (nat_le high moment) (nat_lt moment low) refl refl
-  where
-    go : (met violated : Bool) → nat_le high moment ≡ met → nat_lt moment low ≡ violated
-        → IsStanding bounded late moment (cond met Met (cond violated Violated Open))
-    go true violated e f = more high moment (leb-true high moment e) is
-    go false true e f = (low, has (ltb-true moment low f), ltb-true moment low f)
-    go false false e f = tt
-
-none_before : (moment : ℕ) → moment < 0 → ⊥
-none_before moment less = omega (arith, less)
+use Rattle.td_answer.proofs.Standing.{by_two, none_before}
 
 module _ (setting : Setting) (asking : Asking) where
   more_bound : (one other : ℕ) → one ≤ other → IsBoundAmong setting asking one → IsBoundAmong setting asking other

@@ -209,7 +209,7 @@ module _ (text : List ℕ) (reading : Reading) (ended : Ended) (circuit : Number
           claims = refl;
           tells = inr (is.wanted, tells_between);
           accepted = is.is.certified.accepted (kept_terms told) refl;
-          written = (is.is.certified.written (kept_terms told) refl (is.is.spelled is.is.certified.told) (is.is.few is.is.certified.few)).0;
+          written = is.is.certified.written (kept_terms told) refl (is.is.spelled is.is.certified.told) (is.is.few is.is.certified.few);
         })
 
     open_certified : (low high : ℕ) (pair : Pair) (report : List Line) (certificate : Option Certificate)
@@ -231,7 +231,7 @@ module _ (text : List ℕ) (reading : Reading) (ended : Ended) (circuit : Number
           claims = refl;
           tells = inl (refl, subst (λ (lines : List Line). Contains lines (line.Exact time)) (sym printed) (2, omega arith, refl));
           accepted = is.accepted (terms_in by (read_of told) tree) (no_condition by (read_of told) tree);
-          written = (written (terms_in by (read_of told) tree) kept.1).0;
+          written = written (terms_in by (read_of told) tree) kept.1;
         })
     shown_by budget (answer.Between low high pair nodes short) report more certificate is written kept printed =
         open_certified low high pair report certificate kept

@@ -24,7 +24,7 @@ none_spelled certificate none = subst (λ (c : Option Certificate). IfSome c Has
 certificate_spelled : (text : List ℕ) (reading : Reading) (search : Search) (report : List Line) (certificate : Option Certificate)
     → IsCertified text reading search report certificate → IfSome certificate HasSpelling
 certificate_spelled text reading search report None is = tt
-certificate_spelled text reading search report (Some certificate) is = is.written
+certificate_spelled text reading search report (Some certificate) is = is.written.0
 
 -- the dump that is asked for
 dump_written : (is_asked : Bool) (setting : Setting) (IsRun : (Net → Wave) → Type 0) (dump : Option Dump) → IsDumpWhere is_asked setting IsRun dump

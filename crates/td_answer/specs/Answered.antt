@@ -1,14 +1,18 @@
 -- What the report of a search says of the search: its figures, its cause and its nodes are those of
 -- an answer by the strategy, within the budget.
-use Rattle.std.specs.Prelude.{◌≡◌, ℕ, Bool, true, false, List, ◌++◌, Option, Some, None}
+use Rattle.std.specs.Prelude.{◌≡◌, ℕ, Bool, true, false, List, ◌++◌, length, ◌≤◌, Option, Some, None}
 use Rattle.td_circuit.specs.Settings.{Setting}
 use Rattle.td_domain.specs.Admits.{Admitted}
 use Rattle.td_reading.specs.declared.reading.Reading.{Reading}
 use Rattle.td_request.specs.declared.request.Search.{Search}
 use Rattle.td_request.specs.declared.request.Table.{Table}
 use Rattle.td_question.specs.Asking.{IsAsked}
+use Rattle.td_search.specs.Answers.{IsAnswer}
+use Rattle.td_search.specs.Problems.{Problem}
 use Rattle.td_search.specs.declared.answers.Answer.{Answer}
-use Rattle.td_worst.specs.Methods.{IsAnswerBy, tree_of}
+use Rattle.td_search.specs.declared.strategy.Strategy.TheVariants.{Least}
+use Rattle.td_worst.specs.Methods.{IsAnswerBy, IsWithinEdges, first_nodes, goes_further, tree_of}
+use Rattle.td_worst.specs.declared.method.Method.TheVariants.{Auto}
 use Rattle.td_lines.specs.declared.line.Line.{Line}
 use Rattle.td_answer.specs.Heads.{head_lines}
 use Rattle.td_answer.specs.Kept.{has_conditions}
@@ -17,13 +21,22 @@ use Rattle.td_answer.specs.Methods.{method_of}
 use Rattle.td_answer.specs.declared.ended.Ended.{Ended}
 use Rattle.td_answer.specs.declared.outcome.Outcome.{Outcome}
 
--- the report begins with the lines of an answer by the strategy's method, within the budget
+-- the problem of a setting's admitted pairs, by the tree of the search's strategy
+abbrev pub problem_of : Search → Setting → Admitted → Problem
+problem_of search setting admit = record { setting = setting; admit = admit; strategy = tree_of (method_of search.strategy) }
+
+-- The report begins with the lines of an answer by the strategy's method, within the budget. Where the
+-- budget ends with its first tree, `auto` answers as `least` does; where a search goes on, the upper
+-- figure is at most the bound by edges.
 pub record PrintsAnswer (text : List ℕ) (reading : Reading) (search : Search) (outcome : Outcome) : Type 0 where
   pub setting : Setting
   pub admit : Admitted
   pub asked : IsAsked text reading search.question setting admit
   pub found : Answer
-  pub answer : IsAnswerBy (method_of search.strategy) (record { setting = setting; admit = admit; strategy = tree_of (method_of search.strategy) }) search.effort.budget found
+  pub answer : IsAnswerBy (method_of search.strategy) (problem_of search setting admit) search.effort.budget found
+  pub first : method_of search.strategy ≡ Auto → search.effort.budget ≤ first_nodes (length setting.netlist.gates)
+      → IsAnswer (record { setting = setting; admit = admit; strategy = Least }) search.effort.budget found
+  pub edges : goes_further (method_of search.strategy) (length setting.netlist.gates) search.effort.budget ≡ true → IsWithinEdges (problem_of search setting admit) found
   pub ended : Ended
   pub of : ended.search.now ≡ search
   pub more : List Line

@@ -8,8 +8,8 @@ use Rattle.td_certificate.specs.declared.certificate.Certificate.{Certificate}
 use Rattle.td_certificate.specs.declared.certificate.Claim.{Claim}
 use Rattle.td_certificate.specs.Accepts.{Accepts, setting_of}
 use Rattle.td_certificate.specs.Questions.{Terms}
-use Rattle.td_certificate.specs.Spelling.{HasSpelling}
 use Rattle.td_checker.specs.Checks.{told_by}
+use Rattle.td_search.specs.Written.{HasText}
 use Rattle.td_lines.specs.declared.line.Line.{Line}
 use Rattle.td_lines.specs.declared.line.Line.TheVariants as line
 use Rattle.td_request.specs.declared.request.Search.{Search}
@@ -32,6 +32,7 @@ ClaimsPrinted search report claim = ((claim.high ≡ claim.time) × Contains rep
     ⊎ ((wants_open search claim.time claim.high ≡ true) × Contains report (line.Between claim.time claim.high))
 
 -- it is about what the request asks, claims what is printed, is accepted, and has a text
+-- within the limit
 pub record IsShown (text : List ℕ) (reading : Reading) (search : Search) (report : List Line) (certificate : Certificate) : Type 0 where
   pub netlist : Netlist
   pub asked : IsAsked text reading search.question (setting_of netlist certificate) certificate.question.admit
@@ -40,7 +41,7 @@ pub record IsShown (text : List ℕ) (reading : Reading) (search : Search) (repo
   pub claims : certificate.claim ≡ Some claim
   pub tells : ClaimsPrinted search report claim
   pub accepted : Accepts netlist certificate
-  pub written : HasSpelling certificate
+  pub written : HasText certificate
 
 -- the report says that the worst delay stays open
 abbrev pub SaysBetween : List Line → Type 0

@@ -112,7 +112,7 @@ IsTrueWhole setting asking (Some claim) = IsTrueClaim setting asking claim × Is
 abbrev pub TellsStanding : Setting → Asking → Option ℕ → Option Claim → List Line → Status → Type 0
 TellsStanding setting asking required None lines ending = (lines ≡ []) × (ending ≡ Done)
 TellsStanding setting asking required (Some claim) lines ending =
-    TellsRequired (IsBoundOf setting asking) (IsDelayOfBits setting claim.pair.first claim.pair.second) (ending_of_moments claim.time claim.high) required lines ending
+    TellsRequired (IsBoundOf setting asking) (IsDelayOfBits setting claim.pair.first claim.pair.second) (ending_of_moments claim.time claim.high) claim.time claim.high required lines ending
 
 -- what it claims, how a required moment stands, and what it is about, in the lines of `check`
 abbrev pub joined_lines : Netlist → Bool → Option ℕ → Certificate → List Line

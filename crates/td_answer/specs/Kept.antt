@@ -13,7 +13,7 @@ use Rattle.td_certificate.specs.declared.certificate.Certificate.{Certificate}
 use Rattle.td_certificate.specs.declared.certificate.Claim.{Claim}
 use Rattle.td_certificate.specs.Accepts.{Accepts, setting_of}
 use Rattle.td_certificate.specs.Questions.{Terms, asking_of}
-use Rattle.td_certificate.specs.Spelling.{HasSpelling}
+use Rattle.td_search.specs.Written.{HasText}
 use Rattle.td_request.specs.declared.question.Question.{Question}
 use Rattle.td_request.specs.declared.request.Search.{Search}
 use Rattle.td_question.specs.Asking.{IsAskedKeeping, keep_quotes}
@@ -58,7 +58,7 @@ pub record IsExactAmong (setting : Setting) (asking : Asking) (search : Search) 
   pub printed : lines ≡ line.Exact time ∷ line.From pair.first ∷ line.To pair.second ∷ line.Nodes nodes ∷ ((used ++ required) ++ more)
   pub has : HasDelayAmong setting asking pair time
   pub greatest : IsBoundAmong setting asking time
-  pub stands : TellsRequired (IsBoundAmong setting asking) (HasDelayAmong setting asking pair) status.Done search.required required ending
+  pub stands : TellsRequired (IsBoundAmong setting asking) (HasDelayAmong setting asking pair) status.Done time time search.required required ending
   pub took : TellsWork search.shown.work used
   pub tells : TellsPair search.shown setting pair more
 
@@ -76,7 +76,7 @@ pub record IsBetweenAmong (setting : Setting) (asking : Asking) (search : Search
   pub has : HasDelayAmong setting asking pair low
   pub greatest : IsBoundAmong setting asking high
   pub ordered : low ≤ high
-  pub stands : TellsRequired (IsBoundAmong setting asking) (HasDelayAmong setting asking pair) status.Between search.required required ending
+  pub stands : TellsRequired (IsBoundAmong setting asking) (HasDelayAmong setting asking pair) status.Between low high search.required required ending
   pub took : TellsWork search.shown.work used
   pub tells : TellsPair search.shown setting pair more
 
@@ -89,7 +89,7 @@ pub record IsAtMost (setting : Setting) (asking : Asking) (search : Search) (lin
   pub printed : lines ≡ line.AtMost high ∷ line.Cause cause ∷ (used ++ required)
   pub greatest : IsBoundAmong setting asking high
   pub took : TellsWork search.shown.work used
-  pub stands : TellsRequired (IsBoundAmong setting asking) (λ delay. ⊥) status.Between search.required required ending
+  pub stands : TellsRequired (IsBoundAmong setting asking) (λ delay. ⊥) status.Between 0 high search.required required ending
 
 -- It is `none`: no pair is asked about.
 pub record IsNone (setting : Setting) (asking : Asking) (lines : List Line) : Type 0 where
@@ -128,12 +128,13 @@ AreKeptTermsOf text reading None = ⊥
 AreKeptTermsOf text reading (Some terms) = AreOutputsOf text reading terms.outputs × (terms.default ≡ reading.default)
 
 -- it is about what the request asks, its conditions among that, is accepted, and has a text
+-- within the limit
 pub record IsShownAmong (text : List ℕ) (reading : Reading) (question : Question) (certificate : Certificate) : Type 0 where
   pub netlist : Netlist
   pub asked : IsAskedKeeping text reading question (setting_of netlist certificate) (asking_of certificate.question)
   pub terms : AreKeptTermsOf text reading certificate.question.terms
   pub accepted : Accepts netlist certificate
-  pub written : HasSpelling certificate
+  pub written : HasText certificate
 
 -- what it claims is printed
 abbrev pub TellsClaim : Search → List Line → Option Claim → Type 0

@@ -1,5 +1,5 @@
 -- A required moment, and what is known of it.
-use Rattle.std.specs.Prelude.{◌≡◌, ℕ, ◌<◌, nat_lt, nat_le, ◌||◌, Bool, true, false, cond, List, [], ◌∷◌, Option, Some, None}
+use Rattle.std.specs.Prelude.{◌≡◌, ℕ, ◌<◌, nat_lt, nat_le, ◌||◌, Bool, true, false, cond, List, [], ◌∷◌, Option, Some, None, IfSome}
 use Rattle.td_lines.specs.declared.line.Found.{Found}
 use Rattle.td_lines.specs.declared.line.Found.TheVariants as found
 use Rattle.td_lines.specs.declared.line.Requirement.{Requirement}
@@ -78,9 +78,9 @@ IsStanding bounded late moment Met = bounded moment
 IsStanding bounded late moment Violated = (delay : ℕ) × late delay × (moment < delay)
 IsStanding bounded late moment Open = Unit {0}
 
--- The lines say how the required moment stands, and the search ends so; where none is required, there is
--- no such line, and the search ends as its figures say.
-abbrev pub TellsRequired : (ℕ → Type 0) → (ℕ → Type 0) → Status → Option ℕ → List Line → Status → Type 0
-TellsRequired bounded late plain None lines ending = (lines ≡ []) × (ending ≡ plain)
-TellsRequired bounded late plain (Some moment) lines ending =
-    (standing : Standing) × (lines ≡ line.Required moment standing ∷ []) × (ending ≡ ending_of_standing standing) × IsStanding bounded late moment standing
+-- By two figures: the lines say how the required moment stands by them, which is true, and the search
+-- ends so. Where none is required, there is no such line, and it ends as its figures say.
+pub record TellsRequired (bounded late : ℕ → Type 0) (plain : Status) (low high : ℕ) (required : Option ℕ) (lines : List Line) (ending : Status) : Type 0 where
+  pub said : lines ≡ required_lines required low high
+  pub ends : ending ≡ ending_by required plain low high
+  pub stands : IfSome required (λ moment. IsStanding bounded late moment (standing_of moment low high))

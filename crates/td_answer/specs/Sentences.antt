@@ -37,7 +37,7 @@ pub record IsExact (setting : Setting) (admit : Admitted) (search : Search) (pai
   pub printed : lines ≡ line.Exact time ∷ line.From pair.first ∷ line.To pair.second ∷ line.Nodes nodes ∷ ((used ++ required) ++ more)
   pub worst : IsWorst setting admit time
   pub has : HasDelay setting admit pair time
-  pub stands : TellsRequired (IsUpperBound setting admit) (HasDelay setting admit pair) status.Done search.required required ending
+  pub stands : TellsRequired (IsUpperBound setting admit) (HasDelay setting admit pair) status.Done time time search.required required ending
   pub took : TellsWork search.shown.work used
   pub tells : TellsPair search.shown setting pair more
 
@@ -55,7 +55,7 @@ pub record IsBetween (setting : Setting) (admit : Admitted) (search : Search) (p
   pub has : HasDelay setting admit pair low
   pub greatest : IsUpperBound setting admit high
   pub ordered : low ≤ high
-  pub stands : TellsRequired (IsUpperBound setting admit) (HasDelay setting admit pair) status.Between search.required required ending
+  pub stands : TellsRequired (IsUpperBound setting admit) (HasDelay setting admit pair) status.Between low high search.required required ending
   pub took : TellsWork search.shown.work used
   pub tells : TellsPair search.shown setting pair more
 

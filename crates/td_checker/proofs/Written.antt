@@ -57,7 +57,7 @@ use Rattle.td_certificate.specs.Accepts.{Accepts}
 use Rattle.td_checker.specs.declared.verdict.Verdict.TheVariants as verdict
 use Rattle.td_checker.specs.Verdicts.{AreTold, outputs_for}
 use Rattle.td_checker.specs.Checks.{HasVerdict, default_for, said_by, told_by}
-use Rattle.td_checker.specs.Written.{AcceptedIsWritten, AreTerms}
+use Rattle.td_checker.specs.Written.{AcceptedIsWritten, AreTerms, TextIsAccepted}
 use Rattle.td_checker.proofs.Lines.{count_behind}
 
 -- ---- no delay passes the limits of a circuit
@@ -203,6 +203,18 @@ accepted_has netlist_text reading told netlist c outputs reads acyclic asked are
 
 -- ---- what is written
 
+pub text_is_accepted : TextIsAccepted
+text_is_accepted netlist_text reading netlist c reads acyclic accepts outputs asked are has within = record {
+  has = has;
+  within = within;
+  verdict = λ told. record {
+    certificate = c;
+    spells = record { has = has; parts = refl };
+    within = within;
+    has = accepted_has netlist_text reading told netlist c outputs reads acyclic.acyclic asked are accepts;
+  };
+}
+
 pub accepted_is_written : AcceptedIsWritten
 accepted_is_written netlist_text reading netlist c claim reads acyclic fit flips accepts outputs asked can claimed one few none =
     let given : Setting = setting_of netlist c in
@@ -239,13 +251,4 @@ accepted_is_written netlist_text reading netlist c claim reads acyclic fit flips
       tree = accepts.tree;
     } in
     let within : IsWithinLimit (spelling c) = searched_texts_fit c has (have_few c.question.terms c.tree can.1) (subst IsShortClaim (sym claimed) (small, low)) short few in
-    record {
-      has = has;
-      within = within;
-      verdict = λ told. record {
-        certificate = c;
-        spells = record { has = has; parts = refl };
-        within = within;
-        has = accepted_has netlist_text reading told netlist c outputs reads acyclic.acyclic asked can.0 accepts;
-      };
-    }
+    text_is_accepted netlist_text reading netlist c reads acyclic accepts outputs asked can.0 has within

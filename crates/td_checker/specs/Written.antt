@@ -33,6 +33,13 @@ AreTerms told (Some terms) = (terms.default ≡ told.default) × (terms.outputs 
 abbrev pub CanBeTold : Terms → Certificate → Type 0
 CanBeTold told c = AreTerms told c.question.terms × CanTell c.tree c.question.terms
 
+-- A certificate that is accepted of the netlist that is read of a text, tells how that is read, and
+-- has a text within the limit, is accepted as it is written, whatever shows the bounds of its leaves.
+abbrev pub TextIsAccepted : Type 0
+TextIsAccepted = (netlist_text : List ℕ) (reading : Reading) (netlist : Netlist) (c : Certificate) → ReadsNetlist netlist_text reading netlist
+    → IsAcyclic netlist → Accepts netlist c → (outputs : Option (List ℕ)) → AreOutputsOf netlist_text reading outputs
+    → AreTerms (told_by reading outputs) c.question.terms → HasSpelling c → IsWithinLimit (spelling c) → IsAcceptedAsWritten netlist_text reading c
+
 -- A certificate that is accepted of the netlist that is read of a text, with a moment for each
 -- input, no more flips than inputs, and a tree of at most 10,000,000 lines of which none is a
 -- step's, as an exact answer of a search gives it, is accepted as it is written.

@@ -2,7 +2,7 @@
 
 ghost use Rattle.td_checker.specs.Checks.{TextsHaveOneVerdict};
 ghost use Rattle.td_checker.specs.Verdicts.{OneVerdict};
-ghost use Rattle.td_checker.specs.Written.{AcceptedIsWritten};
+ghost use Rattle.td_checker.specs.Written.{AcceptedIsWritten, TextIsAccepted};
 
 /// A netlist and a certificate have at most one verdict.
 pub fn one_verdict()
@@ -18,4 +18,10 @@ pub fn texts_have_one_verdict()
 /// text is within the limit, and the verdict on that text is `Accepted`.
 pub fn accepted_is_written()
     ensures { AcceptedIsWritten }
+{}
+
+/// The verdict on the text of a certificate that is accepted is `Accepted`, whatever shows the
+/// bounds of its leaves, where that text is within the limit.
+pub fn text_is_accepted()
+    ensures { TextIsAccepted }
 {}

@@ -23,6 +23,7 @@ use Rattle.td_cli.specs.declared.fault.Fault.TheVariants as fault
 use Rattle.td_cli.specs.declared.bytes.Bytes.{Bytes}
 use Rattle.td_cli.specs.Carrying.{Prints, Carries, IsEndWithout, IsUnreported}
 use Rattle.td_cli.specs.Reading.{AreBytes, AreTexts}
+use Rattle.td_cli.specs.Deadlines.{EndsInTime}
 use Rattle.td_cli.specs.Clashes.{IsFaultOf, IsOneFile, KeepsFiles, Overwrites, fault_status}
 use Rattle.td_cli.specs.Ends.{AreBad, Ends, Refuses, Shows, ShowsText, TellsFault}
 
@@ -74,9 +75,9 @@ texts_held holds request bytes texts held netlist certificates keep = rw (netlis
 
 -- or since there is this reason
 pub refused : (disk : Disk) (request : Request) (texts : Texts) (reason : Refusal) (ending : Status) (old new : Output)
-    → AreTexts disk.holds request texts → IsRefused request texts reason → IsUnreported request ending old new
+    → AreTexts disk.holds request texts → EndsInTime request.command reason → IsRefused request texts reason → IsUnreported request ending old new
     → (ending ≡ status_of reason) ⊎ (ending ≡ status.Device) → Carries disk request ending old new
-refused disk request texts reason ending old new held is unreported (inl same) = inr (
+refused disk request texts reason ending old new held timely is unreported (inl same) = inr (
   unreported,
   inr (inr (record {
     netlist = texts.netlist.now;
@@ -84,11 +85,12 @@ refused disk request texts reason ending old new held is unreported (inl same) =
     keep = texts.keep;
     held = held;
     reason = reason;
+    timely = timely;
     is = is;
     ends = same;
   })),
 )
-refused disk request texts reason ending old new held is unreported (inr so) = inr (unreported, inl so)
+refused disk request texts reason ending old new held timely is unreported (inr so) = inr (unreported, inl so)
 
 -- an outcome that is true of what was read was printed
 pub carried : (disk : Disk) (request : Request) (texts : Texts) (outcome : Outcome) (ending : Status) (old new : Output)

@@ -1,6 +1,7 @@
 pub mod Sending
 pub mod Holding
 pub mod Ending
+pub mod InTime
 pub mod Words
 pub mod TokenNames
 pub mod TreeNames

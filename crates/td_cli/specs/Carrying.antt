@@ -25,6 +25,7 @@ use Rattle.td_answer.specs.Statuses.{code_of, status_of}
 use Rattle.td_command.specs.Conflicts.{conflict_of}
 use Rattle.td_cli.specs.Clashes.{HasClash, KeepsFiles}
 use Rattle.td_cli.specs.Asking.{asked_of}
+use Rattle.td_cli.specs.Deadlines.{EndsInTime}
 use Rattle.td_cli.specs.Files.{outputs_of, certificate_names, keep_file}
 
 -- a report in its form
@@ -94,6 +95,7 @@ pub record HasReason (holds : List ℕ → List ℕ → Type 0) (request : Reque
   pub keep : Option (Bor (List ℕ))
   pub held : Holds holds request netlist certificates (option_map (λ text. text.now) keep)
   pub reason : Refusal
+  pub timely : EndsInTime request.command reason
   pub is : IsRefusedBy (filled keep request.command) netlist request.reading certificates reason
   pub ends : ending ≡ status_of reason
 

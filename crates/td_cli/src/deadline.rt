@@ -1,6 +1,6 @@
 //! What ends a run before it is done.
 
-ghost use Rattle.std.specs.Prelude.{◌≡◌};
+ghost use Rattle.std.specs.Prelude.{◌≡◌, is_some};
 ghost use Rattle.td_cli.specs.Deadlines.{seconds_asked, file_asked};
 
 use crate::advice::Advice;
@@ -17,8 +17,14 @@ pub(crate) struct Deadline<'a, 'w, A> {
 }
 
 impl<'a, 'w, A: Advice> Deadline<'a, 'w, A> {
+    ghost use Rattle.std.specs.Prelude.{◌≡◌, ◌||◌, is_some};
+    ghost use Rattle.td_cli.specs.Deadlines.{seconds_asked, file_asked};
+
     /// What ends the run of a request.
-    pub(crate) fn of(request: &Request<'w>, advice: &'a A) -> Self {
+    pub(crate) fn of(request: &Request<'w>, advice: &'a A) -> Self
+        ensures seconds { is_some result.seconds ≡ is_some (seconds_asked request.now.command) }
+        ensures file { result.file ≡ file_asked request.now.command }
+    {
         let seconds = seconds_asked(&request.command);
         let file = file_asked(&request.command);
         Deadline {
@@ -29,7 +35,9 @@ impl<'a, 'w, A: Advice> Deadline<'a, 'w, A> {
     }
 
     /// Whether something may end the run.
-    pub(crate) fn can_come(&self) -> bool {
+    pub(crate) fn can_come(&self) -> bool
+        ensures { result ≡ (is_some self.now.seconds || is_some self.now.file) }
+    {
         self.seconds.is_some() || self.file.is_some()
     }
 
@@ -77,7 +85,9 @@ fn file_asked<'w>(command: &Command<'w>) -> Option<&'w str>
 }
 
 /// The seconds after which a run ends, if it is to end so: 136 years where more are given.
-fn seconds_of(given: Option<u64>) -> Option<u32> {
+fn seconds_of(given: Option<u64>) -> Option<u32>
+    ensures { is_some result ≡ is_some given }
+{
     match given {
         Some(seconds) => Some(u32::try_from(seconds).unwrap_or(u32::MAX)),
         None => None,

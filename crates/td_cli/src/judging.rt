@@ -1,6 +1,7 @@
 //! The outcome of a request on the texts of its files.
 
-ghost use Rattle.std.specs.Prelude.{IfSome};
+ghost use Rattle.std.specs.Prelude.{◌≡◌, true, IfErr, IfSome};
+ghost use Rattle.td_cli.specs.Deadlines.{EndsInTime, is_search};
 ghost use Rattle.td_cli.specs.Judging.{IsAnswered};
 
 use crate::advice::Advice;
@@ -21,7 +22,9 @@ use td_stop::{Stop, Timer};
 use td_text::Sink;
 
 /// Whether a request asks for the progress of its search.
-pub(crate) fn shows_progress(request: &Request<'_>) -> bool {
+pub(crate) fn shows_progress(request: &Request<'_>) -> bool
+    ensures { result ≡ true → is_search request.now.command ≡ true }
+{
     match &request.command {
         Command::Worst(search) => search.shown.progress,
         _ => false,
@@ -39,15 +42,18 @@ pub(crate) fn judged<'n, 'c, 'w, R: Threads + Wait + Clock + Sync, E: Sink, A: A
     err: &mut E,
     advice: &A,
 ) -> Option<Result<Outcome, Refusal<'n, 'w>>>
-    ensures { IfSome result (IsAnswered request.now texts.now) }
+    ensures answered { IfSome result (IsAnswered request.now texts.now) }
+    // A run is out of time only where it is to end after some seconds.
+    ensures timely { IfSome result (λ found. IfErr found (EndsInTime request.now.command)) }
 {
     let case = Case { request, texts };
     let deadline = Deadline::of(request, advice);
     let is_asked = shows_progress(request);
-    if !deadline.can_come() && !is_asked {
+    let may_end = deadline.can_come();
+    if !may_end && !is_asked {
         return Some(case.answered(rt, alloc, &Stop::never(), &mut Unwatched));
     }
-    if deadline.can_come() && !Timer::can_run(rt) {
+    if may_end && !Timer::can_run(rt) {
         return None;
     }
     case.judged(rt, alloc, &deadline, is_asked, err)
@@ -74,7 +80,8 @@ struct Case<'r, 'n, 'c, 'w> {
 }
 
 impl<'r, 'n, 'c, 'w> Case<'r, 'n, 'c, 'w> {
-    ghost use Rattle.std.specs.Prelude.{IfSome};
+    ghost use Rattle.std.specs.Prelude.{IfErr, IfSome};
+    ghost use Rattle.td_answer.specs.Ends.{EndsByStop};
     ghost use Rattle.td_cli.specs.Judging.{IsAnswered};
 
     /// The outcome, of a search that ends once the stop is set.
@@ -85,7 +92,8 @@ impl<'r, 'n, 'c, 'w> Case<'r, 'n, 'c, 'w> {
         stop: &Stop,
         watch: &mut W,
     ) -> Result<Outcome, Refusal<'n, 'w>>
-        ensures { IsAnswered self.entry.request.now self.entry.texts.now result }
+        ensures answered { IsAnswered self.entry.request.now self.entry.texts.now result }
+        ensures stopped { IfErr result (EndsByStop stop.now.can_be_set) }
     {
         answer(rt, alloc, self.request, self.texts, stop, watch)
     }

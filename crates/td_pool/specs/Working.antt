@@ -8,7 +8,7 @@ use Rattle.td_search.specs.Findings.{IsTrueEvidence}
 use Rattle.td_search.specs.Problems.{Problem}
 use Rattle.td_pool.specs.declared.found.Found.{Found}
 use Rattle.td_pool.specs.declared.kept.Kept.{Kept}
-use Rattle.td_pool.specs.declared.pool.Truthful.{Truthful}
+use Rattle.td_pool.specs.declared.reports.Truthful.{Truthful}
 use Rattle.td_pool.specs.declared.state.Work.{Work}
 use Rattle.td_pool.specs.Truth.{IsKeeping, IsStarting}
 use Rattle.td_pool.specs.Watched.{IsFound}

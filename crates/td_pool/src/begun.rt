@@ -9,7 +9,7 @@ ghost use Rattle.td_pool.specs.Working.{IsCrew};
 
 use crate::effort::Effort;
 use crate::found::{Found, Report};
-use crate::pool::Truthful;
+use crate::reports::Truthful;
 use crate::shared::Shared;
 use crate::starting::{first_best, shared_of, starting_of};
 use crate::subject::Subject;

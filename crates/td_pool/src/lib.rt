@@ -27,6 +27,7 @@ mod lent;
 mod limits;
 mod milestones;
 mod pool;
+mod reports;
 mod shared;
 mod starting;
 mod state;

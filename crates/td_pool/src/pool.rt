@@ -1,19 +1,17 @@
 //! The search by several workers.
 
-ghost use Rattle.std.specs.Prelude.{◌≡◌, ◌+◌, ◌<◌, ◌≤◌, false, max, [], length, map, vec_capacity, IfOk, IfErr, IfSome};
+ghost use Rattle.std.specs.Prelude.{◌≡◌, ◌<◌, ◌≤◌, false, [], length, vec_capacity, IfOk, IfErr, IfSome};
 ghost use Rattle.std.specs.List.{AllByRecursion};
 ghost use Rattle.td_domain.specs.Admits.{HasAdmitted};
 ghost use Rattle.td_search.specs.Answers.{IsAnswer, IsSearchFault, TimeNeedsStop};
 ghost use Rattle.td_search.specs.Best.{IsBest};
-ghost use Rattle.td_search.specs.CutShort.{greatest_of};
-ghost use Rattle.td_search.specs.Findings.{IsTrueEvidence};
 ghost use Rattle.td_search.specs.Opened.{ShowsAnswer};
 ghost use Rattle.td_search.specs.Problems.{problem_of, problem};
 ghost use Rattle.td_search.specs.Roots.{IsRoot};
 ghost use Rattle.td_search.specs.Shared.{IsShared};
 ghost use Rattle.td_search.specs.Written.{CanBeWritten};
 ghost use Rattle.td_pool.specs.Truth.{IsTrueFound, IsStarting};
-ghost use Rattle.td_pool.specs.Working.{IsCrew, IsTruthful, IsWorking};
+ghost use Rattle.td_pool.specs.Working.{IsCrew};
 
 use crate::begun::{Begun, Crew, begin};
 use crate::borrowed::{Borrowed, take_back};
@@ -21,44 +19,28 @@ use crate::deck::Deck;
 use crate::effort::Effort;
 use crate::found::{Found, Report, Start};
 use crate::hints::Hints;
-use crate::kept::Kept;
 use crate::lent::lend;
 use crate::limits::Limits;
+use crate::reports::{Truthful, handed_over, join_all};
 use crate::shared::Shared;
-use crate::state::State;
 use crate::subject::Subject;
 use crate::watch::{Unwatched, Watch};
-use crate::working::{Worker, work};
+use crate::working::{work, worker_of};
 use std::alloc::{AllocError, Global};
 use std::marker::Brand;
 use std::snapshot::Snapshot;
 use std::sync::Wait;
-use std::sync::ledger::{Blank, Ledger, Share};
+use std::sync::ledger::Blank;
 use std::thread;
-use std::thread::{Promise, PromisedHandle, Threads};
+use std::thread::Threads;
 use td_circuit::Circuit;
 use td_domain::Admit;
 use td_event_sim::Interruption;
 use td_search::{
-    Answer, Best, Ended, Evidence, Lead, Least, Own, Prober, Problem, Root, Rule, SearchFault,
-    SharedWork, Strategy, Task, alone_shown, finish_shown, root_of,
+    Answer, Ended, Lead, Least, Own, Prober, Problem, Root, Rule, SearchFault, SharedWork,
+    Strategy, Task, alone_shown, finish_shown, root_of,
 };
 use td_stop::Stop;
-
-/// What a worker promises: all that it hands back is true of the admitted pairs of the circuit.
-#[derive(Drop)]
-pub struct Truthful {
-    pub circuit: Snapshot<Circuit>,
-    pub admit: Snapshot<Admit>,
-    pub strategy: Strategy,
-}
-
-impl<L: Ledger> Promise<Report<L>> for Truthful {
-    ghost use Rattle.td_search.specs.Problems.{problem_by};
-    ghost use Rattle.td_pool.specs.Truth.{IsTrueFound};
-
-    ghost kept_by = { λ promise report. IsTrueFound (problem_by promise.strategy promise.circuit.value promise.admit.value) report.found };
-}
 
 /// Searches by `least` for the worst delay of the admitted pairs of a circuit. There are 1 to 64
 /// workers, this thread is one of them, and they handle at most `budget` nodes. The budget is at
@@ -357,31 +339,6 @@ fn found_watched<
     all
 }
 
-// What all workers found, what they shared, and what is known of the pins.
-fn handed_over<L: Subject>(
-    alloc: Global,
-    problem: &Problem<'_>,
-    shared: Shared<L>,
-    all: Vec<Report<L>>,
-    first: Best,
-    root: Root,
-) -> SharedWork
-    requires all { AllByRecursion (λ report. IsTrueFound (problem_of problem.now) report.found) all.items }
-    requires first { IsBest (problem_of problem.now) first }
-    requires root { IsRoot (problem_of problem.now) root }
-    ensures { IsShared (problem_of problem.now) result }
-{
-    let (evidence, best) = gather(alloc, problem, all, first);
-    let Shared { state, .. } = shared;
-    let State { book, .. } = state.into_inner();
-    SharedWork {
-        partial: book.into_book().into_tree(),
-        evidence,
-        root: root.bound,
-        best,
-    }
-}
-
 // What all workers found: this thread, and another one for each further worker, where a thread can
 // be made. The watch, which this thread tells how far the search has come, comes back.
 fn found_by_all<
@@ -475,39 +432,6 @@ fn found_by_all<
     )
 }
 
-// The worker of this number, with what it begins with.
-fn worker_of<'a, L: Subject, D>(
-    problem: &Problem<'_>,
-    shared: &'a Shared<L>,
-    number: u32,
-    deck: D,
-    found: Found,
-    share: Share<L>,
-) -> Worker<'a, D, L>
-    requires found { IsStarting (problem_of problem.now) shared.now.incumbent found }
-    requires part { 0 < share.parts }
-    ensures { IsWorking (problem_of problem.now) result.kept result.evidence.items result.share.parts }
-{
-    let Found {
-        evidence,
-        best,
-        seat,
-    } = found;
-    let seen = best.time();
-    Worker {
-        number,
-        deck,
-        kept: Kept {
-            incumbent: &shared.incumbent,
-            seat,
-            best,
-            seen,
-        },
-        evidence,
-        share,
-    }
-}
-
 // The last of these.
 fn next_found<L: Subject>(
     problem: &Problem<'_>,
@@ -555,88 +479,5 @@ fn with_first<L: Subject, Q: Rule, D: Hints + Drop, W: Watch, R: Wait>(
     let worker = worker_of(task.problem, shared, 0, deck, found, share);
     let report = work(rt, task, shared, worker, watch);
     all.push_reserved(report);
-    all
-}
-
-// What these threads hand back, after what is there, in a vector that has room for all.
-fn join_all<L: Subject, R: Threads>(
-    rt: &R,
-    problem: &Problem<'_>,
-    handles: Vec<PromisedHandle<Report<L>, Truthful>>,
-    all: Vec<Report<L>>,
-) -> Vec<Report<L>>
-    requires handles { AllByRecursion (λ handle. IsTruthful problem.now handle.promise) handles.items }
-    requires all { AllByRecursion (λ report. IsTrueFound (problem_of problem.now) report.found) all.items }
-    requires space { length all.items + length handles.items ≤ vec_capacity all }
-    ensures { AllByRecursion (λ report. IsTrueFound (problem_of problem.now) report.found) result.items }
-{
-    let mut all = all;
-    for handle in handles {
-        all.push_reserved(handle.join(rt));
-    }
-    all
-}
-
-// The evidence of all workers, and the best of their pairs and this one. Of evidence that memory is
-// refused for nothing is kept.
-fn gather<L: Subject>(
-    alloc: Global,
-    problem: &Problem<'_>,
-    all: Vec<Report<L>>,
-    first: Best,
-) -> (Vec<Evidence>, Best)
-    requires all { AllByRecursion (λ report. IsTrueFound (problem_of problem.now) report.found) all.items }
-    requires first { IsBest (problem_of problem.now) first }
-    ensures evidence { AllByRecursion (IsTrueEvidence (problem_of problem.now)) result.0.items }
-    ensures best { IsBest (problem_of problem.now) result.1 }
-    ensures greatest { result.1.time ≡ greatest_of first.time (map (λ report. report.found.best.time) all.items) }
-{
-    let mut evidence = Vec::new(alloc);
-    let mut best = first;
-    for report in all {
-        let Found {
-            evidence: more,
-            best: offered,
-            ..
-        } = report.found;
-        evidence = joined(problem, evidence, more);
-        best = better(problem, best, offered);
-    }
-    (evidence, best)
-}
-
-// The better of two pairs, the first one where their delays are the same.
-fn better(problem: &Problem<'_>, best: Best, other: Best) -> Best
-    requires best { IsBest (problem_of problem.now) best }
-    requires other { IsBest (problem_of problem.now) other }
-    ensures best { IsBest (problem_of problem.now) result }
-    ensures greatest { result.time ≡ max best.time other.time }
-{
-    if other.time() > best.time() {
-        other
-    } else {
-        best
-    }
-}
-
-// The evidence of both. The second is dropped where memory is refused: its nodes are then handled
-// anew.
-fn joined(problem: &Problem<'_>, evidence: Vec<Evidence>, more: Vec<Evidence>) -> Vec<Evidence>
-    requires evidence { AllByRecursion (IsTrueEvidence (problem_of problem.now)) evidence.items }
-    requires more { AllByRecursion (IsTrueEvidence (problem_of problem.now)) more.items }
-    ensures { AllByRecursion (IsTrueEvidence (problem_of problem.now)) result.items }
-{
-    if evidence.is_empty() {
-        return more;
-    }
-    let mut all = evidence;
-    let Ok(()) = all.reserve(more.len()) else {
-        return all;
-    };
-    for piece in more {
-        let Ok(()) = all.push(piece) else {
-            return all;
-        };
-    }
     all
 }

@@ -3,7 +3,7 @@
 ghost use Rattle.std.specs.Prelude.{◌≡◌, ◌<◌, length, vec_capacity, IfOk};
 ghost use Rattle.td_search.specs.Below.{IsBelow, IsWithin};
 ghost use Rattle.td_search.specs.Problems.{problem_of};
-ghost use Rattle.td_pool.specs.Truth.{IsKeeping, IsTrueFound};
+ghost use Rattle.td_pool.specs.Truth.{IsKeeping, IsStarting, IsTrueFound};
 ghost use Rattle.td_pool.specs.Working.{IsWorking};
 
 use crate::found::{Found, Report};
@@ -30,6 +30,39 @@ pub struct Worker<'a, D, L: Ledger> {
     pub kept: Kept<'a>,
     pub evidence: Vec<Evidence>,
     pub share: Share<L>,
+}
+
+/// The worker of this number, with what it begins with.
+pub(crate) fn worker_of<'a, L: Subject, D>(
+    problem: &Problem<'_>,
+    shared: &'a Shared<L>,
+    number: u32,
+    deck: D,
+    found: Found,
+    share: Share<L>,
+) -> Worker<'a, D, L>
+    requires found { IsStarting (problem_of problem.now) shared.now.incumbent found }
+    requires part { 0 < share.parts }
+    ensures { IsWorking (problem_of problem.now) result.kept result.evidence.items result.share.parts }
+{
+    let Found {
+        evidence,
+        best,
+        seat,
+    } = found;
+    let seen = best.time();
+    Worker {
+        number,
+        deck,
+        kept: Kept {
+            incumbent: &shared.incumbent,
+            seat,
+            best,
+            seen,
+        },
+        evidence,
+        share,
+    }
 }
 
 // Splits and closes below a leaf, depth first, zero side first, until nothing is left there or the

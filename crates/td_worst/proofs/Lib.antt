@@ -5,5 +5,6 @@ mod OpenTrees
 mod EdgeLeaves
 mod Edged
 mod Standings
+mod Supported
 mod KeptStandings
 pub mod Told

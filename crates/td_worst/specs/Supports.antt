@@ -1,9 +1,10 @@
 -- What may show the upper figure of an answer that stays open.
-use Rattle.std.specs.Prelude.{ℕ, nat_lt, Option, Some, None, IfSome, if◌then◌else◌}
+use Rattle.std.specs.Prelude.{ℕ, ◌≤◌, nat_lt, Option, Some, None, IfSome, if◌then◌else◌}
 use Rattle.td_circuit.specs.Settings.{Setting}
 use Rattle.td_domain.specs.Admits.{Admitted}
 use Rattle.td_refutation.specs.Asking.{Asking}
 use Rattle.td_refute.specs.Answers.{IsShown}
+use Rattle.td_refute.specs.declared.refuting.Refuted.{Refuted}
 use Rattle.td_refute.specs.Kept.{IsShownAmong}
 use Rattle.td_search.specs.Opened.{ShowsHigh}
 use Rattle.td_worst.specs.declared.support.HighTree.{HighTree}
@@ -33,3 +34,16 @@ pub record IsSupportAmong (given : Setting) (asking : Asking) (support : Support
 abbrev pub earlier_tree : ℕ → Option HighTree → Option HighTree → Option HighTree
 earlier_tree known first None = first
 earlier_tree known first (Some tree) = if nat_lt tree.high known then Some tree else first
+
+-- an upper figure is at most the bound that steps show
+abbrev pub IsWithinSteps : ℕ → Refuted → Type 0
+IsWithinSteps high refuted = high ≤ refuted.bound
+
+-- it is at most the moment that a tree shows
+abbrev pub IsWithinTree : ℕ → HighTree → Type 0
+IsWithinTree high it = high ≤ it.high
+
+-- it is at most all that the support shows
+pub record IsWithinSupport (high : ℕ) (support : Support) : Type 0 where
+  pub steps : IfSome support.steps (IsWithinSteps high)
+  pub tree : IfSome support.tree (IsWithinTree high)

@@ -1,6 +1,6 @@
 //! What two searches of one question know together.
 
-ghost use Rattle.std.specs.Prelude.{◌≡◌, ◌⊎◌, ◌+◌, ◌≤◌, ℕ, Bool, true};
+ghost use Rattle.std.specs.Prelude.{◌≡◌, ◌⊎◌, ◌+◌, ◌≤◌, ℕ, Bool, true, IfSome};
 ghost use Rattle.td_circuit.specs.Settings.{Setting};
 ghost use Rattle.td_domain.specs.Admits.{Admitted};
 ghost use Rattle.td_search.specs.declared.answers.Cause.TheVariants as cause;
@@ -9,7 +9,7 @@ ghost use Rattle.td_search.specs.Written.{CanBeWritten};
 ghost use Rattle.td_search.specs.Answers.{TimeNeedsStop, low_of};
 ghost use Rattle.td_worst.specs.Methods.{high_of, IsNarrower, IsSoundAnswer};
 ghost use Rattle.td_worst.specs.OpenAnswer.{IsOpenAnswer};
-ghost use Rattle.td_worst.specs.Supports.{IsSupportOf, earlier_tree};
+ghost use Rattle.td_worst.specs.Supports.{IsSupportOf, IsWithinTree, earlier_tree};
 
 use crate::refuting::OpenAnswer;
 use crate::support::{Treed, earlier_tree, high_of};
@@ -50,6 +50,9 @@ pub fn with_tree(first: Treed, second: Treed) -> Treed
     ensures time { (can_be_set : Bool) → TimeNeedsStop can_be_set first.answer → TimeNeedsStop can_be_set second.answer → TimeNeedsStop can_be_set result.answer }
     ensures tree { result.tree ≡ earlier_tree (high_of first.answer) first.tree second.tree }
     ensures shown { (given : Setting) (admit : Admitted) → IsSupportOf given admit first.tree → IsSupportOf given admit second.tree → IsSupportOf given admit result.tree }
+    ensures within { (asked : Asked) (budget more : ℕ) → IsSoundAnswer asked budget first.answer → IsSoundAnswer asked more second.answer
+        → IfSome first.tree (IsWithinTree (high_of first.answer)) → IfSome second.tree (IsWithinTree (high_of second.answer))
+        → IfSome result.tree (IsWithinTree (high_of result.answer)) }
 {
     let known = high_of(&first.answer);
     let Treed { answer, tree } = first;

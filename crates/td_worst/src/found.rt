@@ -1,10 +1,10 @@
 //! What a search found.
 
-ghost use Rattle.std.specs.Prelude.{◌≡◌, None};
+ghost use Rattle.std.specs.Prelude.{◌≡◌, ℕ, None, IfSome};
 ghost use Rattle.td_circuit.specs.Settings.{Setting};
 ghost use Rattle.td_domain.specs.Admits.{Admitted};
 ghost use Rattle.td_worst.specs.Methods.{is_answered};
-ghost use Rattle.td_worst.specs.Supports.{IsSupport, IsSupportOf};
+ghost use Rattle.td_worst.specs.Supports.{IsSupport, IsSupportOf, IsWithinSupport, IsWithinTree};
 
 use crate::support::{HighTree, Support};
 use td_search::Answer;
@@ -24,6 +24,7 @@ impl Found {
         ensures answer { result.answer ≡ answer }
         ensures steps { result.support.steps ≡ None }
         ensures support { (given : Setting) (admit : Admitted) → IsSupportOf given admit tree → IsSupport given admit result.support }
+        ensures supported { (high : ℕ) → IfSome tree (IsWithinTree high) → IsWithinSupport high result.support }
     {
         let support = Support { steps: None, tree };
         Found {

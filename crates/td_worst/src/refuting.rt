@@ -13,6 +13,7 @@ ghost use Rattle.td_worst.specs.Causes.{cause_in};
 ghost use Rattle.td_worst.specs.Leaves.{IsSpellable};
 ghost use Rattle.td_worst.specs.Methods.{high_of, IsNarrower, IsSoundAnswer};
 ghost use Rattle.td_worst.specs.OpenAnswer.{IsOpenAnswer};
+ghost use Rattle.td_worst.specs.Supports.{IsWithinSteps};
 
 use crate::leaf::tree_of_leaf;
 use std::alloc::{AllocError, Global};
@@ -82,6 +83,8 @@ impl OpenAnswer {
             → IsShown asked.setting asked.admit refuted.now → IsSoundAnswer asked budget result × CanBeWritten asked result }
         ensures low { low_of result ≡ self.best.time }
         ensures high { self.best.time ≤ self.high → high_of result ≤ self.high }
+        ensures within { (asked : Asked) → IsTimed asked.setting asked.admit self.best → IsShown asked.setting asked.admit refuted.now
+            → IsWithinSteps (high_of result) refuted.now }
         ensures time { (can_be_set : Bool) → (why ≡ cause.Time → can_be_set ≡ true) → TimeNeedsStop can_be_set result }
     {
         let OpenAnswer { best, high, nodes } = self;
@@ -149,6 +152,7 @@ pub fn refuted_further<R: Threads + Sync>(
     ensures narrower { IsNarrower known result.answer }
     ensures time { TimeNeedsStop effort.entry.stop.now.can_be_set result.answer }
     ensures shown { IfSome result.refuted (IsShown (setting problem.now.circuit.now) problem.now.admit.now) }
+    ensures within { IfSome result.refuted (IsWithinSteps (high_of result.answer)) }
 {
     match known {
         Answer::Exact { time, pair, tree } => Stepped::of(Answer::Exact { time, pair, tree }, 0),
@@ -183,6 +187,7 @@ fn refute_open_answer<R: Threads + Sync>(
     ensures high { high_of result.answer ≤ known.high }
     ensures time { TimeNeedsStop effort.entry.stop.now.can_be_set result.answer }
     ensures shown { IfSome result.refuted (IsShown (setting problem.now.circuit.now) problem.now.admit.now) }
+    ensures within { IfSome result.refuted (IsWithinSteps (high_of result.answer)) }
 {
     // For the prover: the circuit's and the pins' sizes.
     let _gates = problem.circuit.gates();

@@ -1,6 +1,6 @@
 //! The search for the worst delay, by any means.
 
-ghost use Rattle.std.specs.Prelude.{◌≡◌, true, min, max, ◌<◌, ◌≤◌, ◌+◌, ◌/◌, ◌^◌, ℕ, length, IfOk, IfErr};
+ghost use Rattle.std.specs.Prelude.{◌≡◌, true, min, max, ◌<◌, ◌≤◌, ◌+◌, ◌/◌, ◌^◌, ℕ, length, IfOk, IfErr, IfSome};
 ghost use Rattle.td_circuit.specs.Numbering.{setting};
 ghost use Rattle.td_search.specs.Answers.{IsAnswer, IsSearchFault, TimeNeedsStop};
 ghost use Rattle.td_search.specs.Problems.{problem_by};
@@ -8,7 +8,7 @@ ghost use Rattle.td_search.specs.declared.strategy.Strategy.TheVariants as strat
 ghost use Rattle.td_search.specs.Written.{CanBeWritten};
 ghost use Rattle.td_worst.specs.declared.method.Method.TheVariants as by_method;
 ghost use Rattle.td_worst.specs.Methods.{problem_in, first_nodes, goes_further, high_of, is_open, IsAnswerBy, IsSoundAnswer, IsWithinEdges};
-ghost use Rattle.td_worst.specs.Supports.{IsSupport, IsSupportOf};
+ghost use Rattle.td_worst.specs.Supports.{IsSupport, IsSupportOf, IsWithinSupport, IsWithinTree};
 
 use crate::combining::with_tree;
 use crate::edge_bound::bounded_by_edges;
@@ -88,6 +88,8 @@ pub fn worst<W: Watch, R: Threads + Wait + Sync>(
     ensures time { IfOk result (λ found. TimeNeedsStop limits.entry.stop.now.can_be_set found.answer) }
     // The steps show their bound, and the tree its moment.
     ensures shown { IfOk result (λ found. IsSupport (setting question.entry.circuit.now) question.entry.admit.now found.support) }
+    // The upper figure is at most what the steps show, and at most what the tree shows.
+    ensures supported { IfOk result (λ found. IsWithinSupport (high_of found.answer) found.support) }
     ensures fault { IfErr result (IsSearchFault (problem_in question.entry)) }
     // All progress that the watch got is true of what is asked.
     ensures reported { W.reported (problem_in question.entry) watch.old watch.new }
@@ -128,6 +130,7 @@ fn by_refutation<W: Watch, R: Threads + Wait + Sync>(
     ensures text { IfOk result (λ found. CanBeWritten (problem_by strategy.Lead question.entry.circuit.now question.entry.admit.now) found.answer) }
     ensures time { IfOk result (λ found. TimeNeedsStop limits.entry.stop.now.can_be_set found.answer) }
     ensures shown { IfOk result (λ found. IsSupport (setting question.entry.circuit.now) question.entry.admit.now found.support) }
+    ensures supported { IfOk result (λ found. IsWithinSupport (high_of found.answer) found.support) }
     ensures fault { IfErr result (IsSearchFault (problem_by strategy.Lead question.entry.circuit.now question.entry.admit.now)) }
     ensures reported { W.reported (problem_by strategy.Lead question.entry.circuit.now question.entry.admit.now) watch.old watch.new }
 {
@@ -180,6 +183,7 @@ fn bounded<W: Watch, R: Threads + Wait + Sync>(
     ensures text { IfOk result (λ found. CanBeWritten (problem_by strategy.Lead circuit.now admit.now) found.answer) }
     ensures time { IfOk result (λ found. TimeNeedsStop limits.entry.stop.now.can_be_set found.answer) }
     ensures shown { IfOk result (λ found. IsSupportOf (setting circuit.now) admit.now found.tree) }
+    ensures within { IfOk result (λ found. IfSome found.tree (IsWithinTree (high_of found.answer))) }
     ensures fault { IfErr result (IsSearchFault (problem_by strategy.Lead circuit.now admit.now)) }
     ensures reported { W.reported (problem_by strategy.Lead circuit.now admit.now) watch.old watch.new }
 {
@@ -210,6 +214,7 @@ fn by_all<W: Watch, R: Threads + Wait + Sync>(
     ensures text { IfOk result (λ found. CanBeWritten (problem_by strategy.Least question.entry.circuit.now question.entry.admit.now) found.answer) }
     ensures time { IfOk result (λ found. TimeNeedsStop limits.entry.stop.now.can_be_set found.answer) }
     ensures shown { IfOk result (λ found. IsSupport (setting question.entry.circuit.now) question.entry.admit.now found.support) }
+    ensures supported { IfOk result (λ found. IsWithinSupport (high_of found.answer) found.support) }
     ensures fault { IfErr result (IsSearchFault (problem_by strategy.Least question.entry.circuit.now question.entry.admit.now)) }
     ensures reported { W.reported (problem_by strategy.Least question.entry.circuit.now question.entry.admit.now) watch.old watch.new }
 {
@@ -264,11 +269,13 @@ fn further<W: Watch, R: Threads + Wait + Sync>(
     requires known { IsSoundAnswer (problem_by strategy.Least question.circuit.now question.admit.now) nodes known.answer }
     requires text { CanBeWritten (problem_by strategy.Least question.circuit.now question.admit.now) known.answer }
     requires tree { IsSupportOf (setting question.circuit.now) question.admit.now known.tree }
+    requires within { IfSome known.tree (IsWithinTree (high_of known.answer)) }
     ensures answer { IsSoundAnswer (problem_by strategy.Least question.entry.circuit.now question.entry.admit.now) (nodes + limits.entry.effort.budget) result.answer }
     ensures text { CanBeWritten (problem_by strategy.Least question.entry.circuit.now question.entry.admit.now) result.answer }
     ensures high { high_of result.answer ≤ high_of known.answer }
     ensures time { TimeNeedsStop limits.entry.stop.now.can_be_set result.answer }
     ensures shown { IsSupport (setting question.entry.circuit.now) question.entry.admit.now result.support }
+    ensures supported { IsWithinSupport (high_of result.answer) result.support }
     ensures reported { W.reported (problem_by strategy.Least question.entry.circuit.now question.entry.admit.now) watch.old watch.new }
 {
     let Question {
@@ -423,6 +430,8 @@ fn led_further<W: Watch, R: Threads + Wait + Sync>(
     ensures high { (budget : ℕ) → IsSoundAnswer (problem_by strategy.Least circuit.now admit.now) budget known.answer → high_of result.answer ≤ high_of known.answer }
     ensures time { TimeNeedsStop limits.entry.stop.now.can_be_set known.answer → TimeNeedsStop limits.entry.stop.now.can_be_set result.answer }
     ensures shown { IsSupportOf (setting circuit.now) admit.now known.tree → IsSupportOf (setting circuit.now) admit.now result.tree }
+    ensures within { (budget : ℕ) → IsSoundAnswer (problem_by strategy.Least circuit.now admit.now) budget known.answer
+        → IfSome known.tree (IsWithinTree (high_of known.answer)) → IfSome result.tree (IsWithinTree (high_of result.answer)) }
     ensures reported { W.reported (problem_by strategy.Least circuit.now admit.now) watch.old watch.new }
 {
     if limits.effort.budget == 0 {

@@ -1,6 +1,6 @@
 //! What may show the upper figure of an answer that stays open.
 
-ghost use Rattle.std.specs.Prelude.{◌≡◌, ◌≤◌, None, IfSome};
+ghost use Rattle.std.specs.Prelude.{◌≡◌, ◌≤◌, ℕ, None, IfSome};
 ghost use Rattle.td_circuit.specs.Settings.{Setting};
 ghost use Rattle.td_domain.specs.Admits.{Admitted};
 ghost use Rattle.td_refutation.specs.Asking.{Asking};
@@ -8,7 +8,7 @@ ghost use Rattle.td_refute.specs.Answers.{IsShown};
 ghost use Rattle.td_refute.specs.Kept.{IsShownAmong};
 ghost use Rattle.td_search.specs.Opened.{high_of, ShowsAnswer, ShowsHigh};
 ghost use Rattle.td_search.specs.Problems.{Problem as Asked};
-ghost use Rattle.td_worst.specs.Supports.{IsHighTree, IsSupportAmong, IsSupportOf, earlier_tree};
+ghost use Rattle.td_worst.specs.Supports.{IsHighTree, IsSupportAmong, IsSupportOf, IsWithinSteps, IsWithinTree, earlier_tree};
 
 use td_certificate::Tree;
 use td_refute::Refuted;
@@ -75,7 +75,7 @@ impl Treed {
     pub(crate) fn of(ended: Ended) -> Treed
         ensures answer { result.answer ≡ ended.answer }
         ensures tree { (asked : Asked) → ShowsAnswer asked ended → IsSupportOf asked.setting asked.admit result.tree }
-        ensures high { IfSome result.tree (λ tree. tree.high ≡ high_of ended.answer) }
+        ensures within { IfSome result.tree (IsWithinTree (high_of ended.answer)) }
     {
         let Ended { answer, tree } = ended;
         let high = high_of(&answer);
@@ -98,6 +98,7 @@ pub(crate) fn earlier_tree(
 ) -> Option<HighTree>
     ensures is { result ≡ earlier_tree known first second }
     ensures tree { (given : Setting) (admit : Admitted) → IsSupportOf given admit first → IsSupportOf given admit second → IsSupportOf given admit result }
+    ensures within { (high : ℕ) → IfSome first (IsWithinTree high) → IfSome second (IsWithinTree high) → IfSome result (IsWithinTree high) }
 {
     let Some(tree) = second else {
         return first;
@@ -110,7 +111,8 @@ pub(crate) fn earlier_tree(
 
 /// The steps of two searches that show the lower bound.
 pub(crate) fn lower_steps(first: Option<Refuted>, second: Option<Refuted>) -> Option<Refuted>
-    ensures { (given : Setting) (admit : Admitted) → IfSome first (IsShown given admit) → IfSome second (IsShown given admit) → IfSome result (IsShown given admit) }
+    ensures shown { (given : Setting) (admit : Admitted) → IfSome first (IsShown given admit) → IfSome second (IsShown given admit) → IfSome result (IsShown given admit) }
+    ensures within { (high : ℕ) → IfSome first (IsWithinSteps high) → IfSome second (IsWithinSteps high) → IfSome result (IsWithinSteps high) }
 {
     let Some(one) = first else {
         return second;

@@ -7,7 +7,8 @@ ghost use Rattle.td_refute.specs.Answers.{IsShown};
 ghost use Rattle.td_search.specs.Answers.{TimeNeedsStop};
 ghost use Rattle.td_search.specs.Problems.{Problem as Asked, problem_of};
 ghost use Rattle.td_search.specs.Written.{CanBeWritten};
-ghost use Rattle.td_worst.specs.Methods.{IsNarrower, IsSoundAnswer};
+ghost use Rattle.td_worst.specs.Methods.{high_of, IsNarrower, IsSoundAnswer};
+ghost use Rattle.td_worst.specs.Supports.{IsWithinSteps};
 
 use crate::refuting::{Stepped, refuted_further};
 use std::alloc::Global;
@@ -59,6 +60,7 @@ pub(crate) fn refuted_told<W: Watch, R: Threads + Sync>(
     ensures narrower { IsNarrower known result.answer }
     ensures time { TimeNeedsStop effort.entry.stop.now.can_be_set result.answer }
     ensures shown { IfSome result.refuted (IsShown (setting problem.now.circuit.now) problem.now.admit.now) }
+    ensures within { IfSome result.refuted (IsWithinSteps (high_of result.answer)) }
     ensures reported { W.reported (problem_of problem.now) watch.old watch.new }
 {
     watch.passed(problem, progress_of(&known));

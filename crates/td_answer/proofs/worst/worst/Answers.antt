@@ -122,6 +122,8 @@ returns-clause-answered g c =
       asked = c.in_ok-asked.ensures.asked;
       found = c.in_ok-found.found.answer;
       answer = rw (c.method_of-method.ensures, c.limits_of-limits.ensures.budget) at c.in_ok-found.ensures.answer;
+      first = rw (c.method_of-method.ensures, c.limits_of-limits.ensures.budget) at c.in_ok-found.ensures.first;
+      edges = rw (c.method_of-method.ensures, c.limits_of-limits.ensures.budget) at c.in_ok-found.ensures.edges;
       ended = record { search = c.args.search; was_asked = c.was_asked.result; work = c.in_ok-found.found.work };
       of = refl;
       more = c.in_ok-outcome.ensures.report.0;

@@ -1,6 +1,11 @@
 use Rattle.td_search.specs.declared.answers.Cause.TheVariants.{Memory}
 use Rattle.td_search.specs.Problems.{problem_of}
 use Rattle.td_worst.proofs.Standings.{reported_between, with_best, best_small}
+use Rattle.std.proofs.Common.{sym, subst}
+use Rattle.td_refute.specs.declared.refuting.Refuted.{Refuted}
+use Rattle.td_worst.specs.Methods.{high_of}
+use Rattle.td_worst.specs.Supports.{IsWithinSteps}
+use Rattle.td_worst.proofs.KeptLeaves.{if_some}
 use Rattle.td_worst.proofs.refuting.refute_open_answer.Goals as goal
 
 pub refuted-answer-requires : goal.refuted-answer-requires
@@ -48,3 +53,10 @@ pub returns-in-Err-clause-answer : goal.returns-in-Err-clause-answer
 returns-in-Err-clause-answer g c =
     rw (c.of-in-Err.ensures.answer, c.between-in-Err.ensures) (reported_between (problem_of c.args.problem.now) c.args.budget _ Memory
     (with_best (problem_of c.args.problem.now) c.args.budget c.args.known _ c.requires.known c.search-found.ensures.best)).0
+
+pub returns-in-Ok-Some-clause-within : goal.returns-in-Ok-Some-clause-within
+returns-in-Ok-Some-clause-within g c =
+    let within = c.refuted-answer.ensures.within (problem_of c.args.problem.now) c.search-found.ensures.best
+    (rw (c.in-Ok-Some.is, c.in-Ok-Some.field-0-is) at c.search-found.ensures.shown).steps in
+    rw c.with_steps.ensures.answer (if_some _ _ (λ (steps : Refuted) same. subst (IsWithinSteps (high_of c.refuted-answer.result)) (sym same) within)
+    c.with_steps.result.refuted c.with_steps.ensures.steps)

@@ -29,3 +29,6 @@ pub returns-in_err-found-clause-fault : goal.returns-in_err-found-clause-fault
 returns-in_err-found-clause-fault g c =
     let reported = err_from_is_err_and c.from_residual.result c.from_residual.ensures.1 in
     rw (reported.1, reported.2) (fault_alike (problem_by Least c.args.circuit.now c.args.admit.now) Lead c.in_err-found.field-0.0 c.in_err-found.ensures.fault)
+
+pub returns-clause-within : goal.returns-clause-within
+returns-clause-within g c = rw c.of.ensures.answer c.of.ensures.within

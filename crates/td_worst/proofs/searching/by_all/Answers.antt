@@ -4,6 +4,7 @@ use Rattle.td_search.specs.declared.strategy.Strategy.TheVariants.{Least}
 use Rattle.td_search.specs.Problems.{problem_by}
 use Rattle.td_worst.proofs.Edged.{stays_within}
 use Rattle.td_worst.proofs.Outcomes.{more_budget}
+use Rattle.td_worst.proofs.Supported.{less_within_tree}
 use Rattle.td_worst.proofs.searching.by_all.Goals as goal
 
 pub returns-clause-answer : goal.returns-clause-answer
@@ -35,3 +36,16 @@ returns-then-not-is_open-clause-shown g c =
 pub further-requires-clause-tree : goal.further-requires-clause-tree
 further-requires-clause-tree g c = λ κs lives.
     c.of-begun.ensures.tree (problem_by Least c.args.question.circuit.now c.args.question.admit.now) c.in_ok-ended.ensures.shown
+
+pub returns-then-left-eq0-clause-supported : goal.returns-then-left-eq0-clause-supported
+returns-then-left-eq0-clause-supported g c =
+    rw (c.of.ensures.answer, c.of-begun.ensures.answer) (c.of.ensures.supported _ c.of-begun.ensures.within)
+
+pub returns-then-not-is_open-clause-supported : goal.returns-then-not-is_open-clause-supported
+returns-then-not-is_open-clause-supported g c =
+    rw c.of-then-not-is_open.ensures.answer (c.of-then-not-is_open.ensures.supported _
+    (less_within_tree _ _ c.of-begun.result.tree c.bounded_by_edges-known.ensures.narrower.high (rw c.of-begun.ensures.answer c.of-begun.ensures.within)))
+
+pub further-requires-clause-within : goal.further-requires-clause-within
+further-requires-clause-within g c = λ κs lives.
+    less_within_tree _ _ c.of-begun.result.tree c.bounded_by_edges-known.ensures.narrower.high (rw c.of-begun.ensures.answer c.of-begun.ensures.within)

@@ -2,6 +2,7 @@ use Rattle.std.proofs.Common.{◌+◌, arith}
 use Rattle.td_search.specs.declared.strategy.Strategy.TheVariants.{Least}
 use Rattle.td_search.specs.Problems.{problem_by}
 use Rattle.td_worst.proofs.Outcomes.{more_budget}
+use Rattle.td_worst.proofs.Supported.{less_within_tree, less_within_steps}
 use Rattle.td_worst.proofs.searching.further.Goals as goal
 
 pub refuted_told-shown-requires-clause-known : goal.refuted_told-shown-requires-clause-known
@@ -86,3 +87,41 @@ returns-clause-reported g c =
     let asked = problem_by Least c.args.question.circuit.now c.args.question.admit.now in
     g.met.W.Watch.reported_both asked _ _ _ (g.met.W.Watch.reported_both asked _ _ _ (g.met.W.Watch.reported_both asked _ _ _ c.refuted_told-soon.ensures.reported c.led_further-led.ensures.reported)
     c.refuted_told-shown.ensures.reported) c.led_further-ended.ensures.reported
+
+pub returns-then-not-is_open-clause-supported : goal.returns-then-not-is_open-clause-supported
+returns-then-not-is_open-clause-supported g c = record {
+  steps = c.refuted_told-soon.ensures.within;
+  tree = less_within_tree _ _ c.args.known.tree c.refuted_told-soon.ensures.narrower.high c.requires.within;
+}
+
+pub returns-then-is_answered-2-clause-supported : goal.returns-then-is_answered-2-clause-supported
+returns-then-is_answered-2-clause-supported g c = record {
+  steps = less_within_steps _ _ c.refuted_told-soon.result.refuted (c.led_further-led.ensures.high _ c.refuted_told-soon.ensures.answer) c.refuted_told-soon.ensures.within;
+  tree = c.led_further-led.ensures.within _ c.refuted_told-soon.ensures.answer
+      (less_within_tree _ _ c.args.known.tree c.refuted_told-soon.ensures.narrower.high c.requires.within);
+}
+
+pub returns-then-is_exact-clause-supported : goal.returns-then-is_exact-clause-supported
+returns-then-is_exact-clause-supported g c = record {
+  steps = c.lower_steps-steps.ensures.within _
+      (less_within_steps _ _ c.refuted_told-soon.result.refuted
+      (omega (arith, c.led_further-led.ensures.high _ c.refuted_told-soon.ensures.answer, c.refuted_told-shown.ensures.narrower.high)) c.refuted_told-soon.ensures.within)
+      c.refuted_told-shown.ensures.within;
+  tree = less_within_tree _ _ c.led_further-led.result.tree c.refuted_told-shown.ensures.narrower.high
+      (c.led_further-led.ensures.within _ c.refuted_told-soon.ensures.answer
+      (less_within_tree _ _ c.args.known.tree c.refuted_told-soon.ensures.narrower.high c.requires.within));
+}
+
+pub returns-clause-supported : goal.returns-clause-supported
+returns-clause-supported g c =
+    let last = c.led_further-ended.ensures.high _ c.refuted_told-shown.ensures.answer in
+    record {
+      steps = c.lower_steps-steps.ensures.within _
+          (less_within_steps _ _ c.refuted_told-soon.result.refuted
+          (omega (arith, c.led_further-led.ensures.high _ c.refuted_told-soon.ensures.answer, c.refuted_told-shown.ensures.narrower.high, last)) c.refuted_told-soon.ensures.within)
+          (less_within_steps _ _ c.refuted_told-shown.result.refuted last c.refuted_told-shown.ensures.within);
+      tree = c.led_further-ended.ensures.within _ c.refuted_told-shown.ensures.answer
+          (less_within_tree _ _ c.led_further-led.result.tree c.refuted_told-shown.ensures.narrower.high
+          (c.led_further-led.ensures.within _ c.refuted_told-soon.ensures.answer
+          (less_within_tree _ _ c.args.known.tree c.refuted_told-soon.ensures.narrower.high c.requires.within)));
+    }

@@ -32,3 +32,11 @@ pub returns-in-Ok-clause-shown : goal.returns-in-Ok-clause-shown
 returns-in-Ok-clause-shown g c = λ known.
     c.with_tree.ensures.shown (setting c.args.circuit.now) c.args.admit.now known
     (c.of.ensures.tree (problem_by Lead c.args.circuit.now c.args.admit.now) c.in-Ok.ensures.shown)
+
+pub returns-in-Ok-clause-within : goal.returns-in-Ok-clause-within
+returns-in-Ok-clause-within g c = λ budget is known.
+    let asked = problem_by Lead c.args.circuit.now c.args.admit.now in
+    c.with_tree.ensures.within (problem_by Least c.args.circuit.now c.args.admit.now) budget c.args.limits.effort.budget is
+    (rw c.of.ensures.answer
+    (outcome_alike asked Least c.args.limits.effort.budget c.in-Ok.found.answer (outcome_of asked c.args.limits.effort.budget c.in-Ok.found.answer c.in-Ok.ensures.answer)))
+    known (rw c.of.ensures.answer c.of.ensures.within)

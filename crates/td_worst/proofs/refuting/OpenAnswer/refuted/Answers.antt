@@ -31,3 +31,12 @@ returns-clause-low c = rw c.between-2.ensures refl
 
 pub returns-clause-high : goal.returns-clause-high
 returns-clause-high c = λ le. rw c.between-2.ensures le
+
+pub returns-then-refuted-time-clause-within : goal.returns-then-refuted-time-clause-within
+returns-then-refuted-time-clause-within c = λ asked timed shown. rw (c.between.ensures, c.min-high.ensures) (omega arith)
+
+pub returns-in-Ok-Some-clause-within : goal.returns-in-Ok-Some-clause-within
+returns-in-Ok-Some-clause-within c = λ asked timed shown. shown.bound c.args.self.best.pair c.args.self.best.time timed.admitted timed.delay
+
+pub returns-clause-within : goal.returns-clause-within
+returns-clause-within c = λ asked timed shown. rw c.between-2.ensures (shown.bound c.args.self.best.pair c.args.self.best.time timed.admitted timed.delay)

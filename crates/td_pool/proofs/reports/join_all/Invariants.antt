@@ -5,7 +5,7 @@ use Rattle.std.specs.Vec.Iter.{into_iter_items}
 use Rattle.td_search.specs.Problems.{problem_of}
 use Rattle.td_pool.specs.Truth.{IsTrueFound}
 use Rattle.td_pool.specs.Working.{IsTruthful}
-use Rattle.td_pool.proofs.pool.join_all.Given as goal
+use Rattle.td_pool.proofs.reports.join_all.Given as goal
 
 abbrev pub invariant-loop-handle : goal.invariant-loop-handle
 invariant-loop-handle g l = record {

@@ -6,7 +6,7 @@ use Rattle.td_search.specs.Findings.{IsTrueEvidence}
 use Rattle.td_search.specs.Problems.{problem_of}
 use Rattle.td_search.specs.Best.{IsBest}
 use Rattle.td_pool.specs.Truth.{IsTrueFound}
-use Rattle.td_pool.proofs.pool.gather.Given as goal
+use Rattle.td_pool.proofs.reports.gather.Given as goal
 
 abbrev pub invariant-loop-report : goal.invariant-loop-report
 invariant-loop-report g l = record {

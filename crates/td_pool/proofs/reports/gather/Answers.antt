@@ -2,7 +2,7 @@ use Rattle.std.proofs.Common.{◌≡◌, ◌∷◌, subst}
 use Rattle.std.specs.List.{AllByRecursion}
 use Rattle.std.specs.Vec.Iter.{into_iter_items}
 use Rattle.td_pool.proofs.Covers.{greatest_next}
-use Rattle.td_pool.proofs.pool.gather.Goals as goal
+use Rattle.td_pool.proofs.reports.gather.Goals as goal
 
 pub loop-report-preserved : goal.loop-report-preserved
 loop-report-preserved g c =
