@@ -62,10 +62,10 @@ certified_with text reading search outcome some is =
 
 -- ---- what the report says of the search
 
-pub printed_without : (text : List ℕ) (reading : Reading) (search : Search) (outcome : Outcome) → has_conditions search.question ≡ false
-    → PrintsAnswer text reading search outcome → IsPrintOfSearch text reading search outcome
-printed_without text reading search outcome none is = subst (λ (b : Bool). PrintsAnswerBy b text reading search outcome) (sym none) is
+pub printed_without : (can_stop : Bool) (text : List ℕ) (reading : Reading) (search : Search) (outcome : Outcome) → has_conditions search.question ≡ false
+    → PrintsAnswer can_stop text reading search outcome → IsPrintOfSearch can_stop text reading search outcome
+printed_without can_stop text reading search outcome none is = subst (λ (b : Bool). PrintsAnswerBy b can_stop text reading search outcome) (sym none) is
 
-pub printed_with : (text : List ℕ) (reading : Reading) (search : Search) (outcome : Outcome) → has_conditions search.question ≡ true
-    → IsPrintOfSearch text reading search outcome
-printed_with text reading search outcome some = subst (λ (b : Bool). PrintsAnswerBy b text reading search outcome) (sym some) tt
+pub printed_with : (can_stop : Bool) (text : List ℕ) (reading : Reading) (search : Search) (outcome : Outcome) → has_conditions search.question ≡ true
+    → IsPrintOfSearch can_stop text reading search outcome
+printed_with can_stop text reading search outcome some = subst (λ (b : Bool). PrintsAnswerBy b can_stop text reading search outcome) (sym some) tt

@@ -7,7 +7,7 @@ use Rattle.td_reading.specs.declared.reading.Reading.{Reading}
 use Rattle.td_request.specs.declared.request.Search.{Search}
 use Rattle.td_request.specs.declared.request.Table.{Table}
 use Rattle.td_question.specs.Asking.{IsAsked}
-use Rattle.td_search.specs.Answers.{IsAnswer}
+use Rattle.td_search.specs.Answers.{IsAnswer, TimeNeedsStop}
 use Rattle.td_search.specs.Problems.{Problem}
 use Rattle.td_search.specs.declared.answers.Answer.{Answer}
 use Rattle.td_search.specs.declared.strategy.Strategy.TheVariants.{Least}
@@ -27,8 +27,8 @@ problem_of search setting admit = record { setting = setting; admit = admit; str
 
 -- The report begins with the lines of an answer by the strategy's method, within the budget. Where the
 -- budget ends with its first tree, `auto` answers as `least` does; where a search goes on, the upper
--- figure is at most the bound by edges.
-pub record PrintsAnswer (text : List ℕ) (reading : Reading) (search : Search) (outcome : Outcome) : Type 0 where
+-- figure is at most the bound by edges. Time is its cause only where the search can be stopped.
+pub record PrintsAnswer (can_stop : Bool) (text : List ℕ) (reading : Reading) (search : Search) (outcome : Outcome) : Type 0 where
   pub setting : Setting
   pub admit : Admitted
   pub asked : IsAsked text reading search.question setting admit
@@ -37,20 +37,21 @@ pub record PrintsAnswer (text : List ℕ) (reading : Reading) (search : Search) 
   pub first : method_of search.strategy ≡ Auto → search.effort.budget ≤ first_nodes (length setting.netlist.gates)
       → IsAnswer (record { setting = setting; admit = admit; strategy = Least }) search.effort.budget found
   pub edges : goes_further (method_of search.strategy) (length setting.netlist.gates) search.effort.budget ≡ true → IsWithinEdges (problem_of search setting admit) found
+  pub timely : TimeNeedsStop can_stop found
   pub ended : Ended
   pub of : ended.search.now ≡ search
   pub more : List Line
   pub printed : outcome.report ≡ (head_lines setting.netlist ++ answer_lines ended found) ++ more
 
 -- where no conditions are given
-abbrev pub PrintsAnswerBy : Bool → List ℕ → Reading → Search → Outcome → Type 0
-PrintsAnswerBy false text reading search outcome = PrintsAnswer text reading search outcome
-PrintsAnswerBy true text reading search outcome = Unit {0}
+abbrev pub PrintsAnswerBy : Bool → Bool → List ℕ → Reading → Search → Outcome → Type 0
+PrintsAnswerBy false can_stop text reading search outcome = PrintsAnswer can_stop text reading search outcome
+PrintsAnswerBy true can_stop text reading search outcome = Unit {0}
 
-abbrev pub IsPrintOfSearch : List ℕ → Reading → Search → Outcome → Type 0
-IsPrintOfSearch text reading search outcome = PrintsAnswerBy (has_conditions search.question) text reading search outcome
+abbrev pub IsPrintOfSearch : Bool → List ℕ → Reading → Search → Outcome → Type 0
+IsPrintOfSearch can_stop text reading search outcome = PrintsAnswerBy (has_conditions search.question) can_stop text reading search outcome
 
 -- and no table is asked for
-abbrev pub IsPrintOfTable : Option Table → List ℕ → Reading → Search → Outcome → Type 0
-IsPrintOfTable None text reading search outcome = IsPrintOfSearch text reading search outcome
-IsPrintOfTable (Some table) text reading search outcome = Unit {0}
+abbrev pub IsPrintOfTable : Option Table → Bool → List ℕ → Reading → Search → Outcome → Type 0
+IsPrintOfTable None can_stop text reading search outcome = IsPrintOfSearch can_stop text reading search outcome
+IsPrintOfTable (Some table) can_stop text reading search outcome = Unit {0}

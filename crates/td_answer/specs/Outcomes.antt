@@ -1,5 +1,5 @@
 -- What is true of the outcome of a request, by its command.
-use Rattle.std.specs.Prelude.{◌≡◌, ℕ, List, Option, Some, None, slice_get}
+use Rattle.std.specs.Prelude.{◌≡◌, ℕ, Bool, List, Option, Some, None, slice_get}
 use Rattle.std.specs.Global.{Vec}
 use Rattle.td_reading.specs.declared.reading.Reading.{Reading}
 use Rattle.td_search.specs.Problems.{Problem}
@@ -78,10 +78,10 @@ IsCertifiedBy (command.Worst asked) text reading outcome = IsCertifiedSearch ask
 IsCertifiedBy (command.Join asked) text reading outcome = Unit {0}
 IsCertifiedBy other text reading outcome = outcome.certificate ≡ None
 
--- what the report of a search says of the search
-abbrev pub IsPrintOfCommand : Command → List ℕ → Reading → Outcome → Type 0
-IsPrintOfCommand (command.Worst asked) text reading outcome = IsPrintOfTable asked.table text reading asked outcome
-IsPrintOfCommand other text reading outcome = Unit {0}
+-- what the report of a search says of the search, which can be stopped or not
+abbrev pub IsPrintOfCommand : Bool → Command → List ℕ → Reading → Outcome → Type 0
+IsPrintOfCommand can_stop (command.Worst asked) text reading outcome = IsPrintOfTable asked.table can_stop text reading asked outcome
+IsPrintOfCommand can_stop other text reading outcome = Unit {0}
 
 -- why there is none
 abbrev pub IsRefusedBy : Command → List ℕ → Reading → List (Vec ℕ) → Refusal → Type 0
@@ -100,8 +100,8 @@ IsTrueOutcome request texts outcome = SaysTrue (filled texts.keep request.comman
 abbrev pub HasCertificate : Request → Texts → Outcome → Type 0
 HasCertificate request texts outcome = IsCertifiedBy (filled texts.keep request.command) texts.netlist.now request.reading outcome
 
-abbrev pub IsPrintOf : Request → Texts → Outcome → Type 0
-IsPrintOf request texts outcome = IsPrintOfCommand (filled texts.keep request.command) texts.netlist.now request.reading outcome
+abbrev pub IsPrintOf : Bool → Request → Texts → Outcome → Type 0
+IsPrintOf can_stop request texts outcome = IsPrintOfCommand can_stop (filled texts.keep request.command) texts.netlist.now request.reading outcome
 
 abbrev pub IsRefused : Request → Texts → Refusal → Type 0
 IsRefused request texts reason = IsRefusedBy (filled texts.keep request.command) texts.netlist.now request.reading texts.certificates.now reason

@@ -49,7 +49,7 @@ pub fn answer<'n, 'w, 'c, W: TableWatch, R: Threads + Wait + Sync>(
     watch: &mut W,
 ) -> Result<Outcome, Refusal<'n, 'w>>
     ensures says { IfOk result (IsTrueOutcome request.now texts.now) }
-    ensures answered { IfOk result (IsPrintOf request.now texts.now) }
+    ensures answered { IfOk result (IsPrintOf stop.now.can_be_set request.now texts.now) }
     ensures certified { IfOk result (HasCertificate request.now texts.now) }
     ensures written { IfOk result CanBeWritten }
     ensures refusal { IfErr result (IsRefused request.now texts.now) }
@@ -85,7 +85,7 @@ pub fn answer_plain<'n, 'w, 'c>(
 ) -> Result<Outcome, Refusal<'n, 'w>>
     requires { IsPlain request.now.command }
     ensures says { IfOk result (IsTrueOutcome request.now texts.now) }
-    ensures answered { IfOk result (IsPrintOf request.now texts.now) }
+    ensures answered { IfOk result (IsPrintOf stop.now.can_be_set request.now texts.now) }
     ensures certified { IfOk result (HasCertificate request.now texts.now) }
     ensures written { IfOk result CanBeWritten }
     ensures refusal { IfErr result (IsRefused request.now texts.now) }
@@ -125,7 +125,7 @@ fn searched<'n, 'w, W: TableWatch, R: Threads + Wait + Sync>(
     watch: &mut W,
 ) -> Result<Outcome, Refusal<'n, 'w>>
     ensures says { IfOk result (IsSearchedTrue search.now.table text.now reading.now search.now) }
-    ensures answered { IfOk result (IsPrintOfTable search.now.table text.now reading.now search.now) }
+    ensures answered { IfOk result (IsPrintOfTable search.now.table stop.now.can_be_set text.now reading.now search.now) }
     ensures certified { IfOk result (IsCertifiedSearch search.now.table text.now reading.now search.now) }
     ensures written { IfOk result CanBeWritten }
     ensures refusal { IfErr result (IsRefusedSearch text.now reading.now search.now) }

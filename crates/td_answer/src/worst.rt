@@ -73,6 +73,7 @@ pub(crate) fn limits_of<'a>(asked: &td_request::Effort, stop: &'a Stop) -> Limit
     ensures workers { result.effort.workers ≡ asked.now.workers }
     ensures budget { result.effort.budget ≡ asked.now.budget }
     ensures memory { result.memory ≡ bytes_of asked.now.memory }
+    ensures stop { result.stop.now ≡ stop.now }
 {
     let effort = Effort {
         workers: asked.workers,
@@ -252,7 +253,7 @@ pub(crate) fn worst<'n, 'w, W: Watch, R: Threads + Wait + Sync>(
     watch: &mut W,
 ) -> Result<Outcome, Refusal<'n, 'w>>
     ensures says { IfOk result (IsTrueSearch text.now reading.now search.now) }
-    ensures answered { IfOk result (IsPrintOfSearch text.now reading.now search.now) }
+    ensures answered { IfOk result (IsPrintOfSearch stop.now.can_be_set text.now reading.now search.now) }
     ensures certified { IfOk result (λ outcome. IsCertifiedFor text.now reading.now search.now outcome.report outcome.certificate) }
     ensures written { IfOk result CanBeWritten }
     ensures refusal { IfErr result (IsRefusedSearch text.now reading.now search.now) }

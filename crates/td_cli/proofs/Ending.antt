@@ -16,6 +16,7 @@ use Rattle.td_answer.specs.declared.refusal.Refusal.{Refusal}
 use Rattle.td_answer.specs.declared.status.Status.{Status}
 use Rattle.td_answer.specs.declared.status.Status.TheVariants as status
 use Rattle.td_answer.specs.declared.texts.Texts.{Texts}
+use Rattle.td_answer.specs.Ends.{EndsByStop}
 use Rattle.td_answer.specs.Outcomes.{IsTrueOutcome, IsPrintOf, IsRefused}
 use Rattle.td_answer.specs.Statuses.{status_of}
 use Rattle.td_cli.specs.declared.fault.Fault.{Fault}
@@ -23,7 +24,7 @@ use Rattle.td_cli.specs.declared.fault.Fault.TheVariants as fault
 use Rattle.td_cli.specs.declared.bytes.Bytes.{Bytes}
 use Rattle.td_cli.specs.Carrying.{Prints, Carries, IsEndWithout, IsUnreported}
 use Rattle.td_cli.specs.Reading.{AreBytes, AreTexts}
-use Rattle.td_cli.specs.Deadlines.{EndsInTime}
+use Rattle.td_cli.specs.Deadlines.{can_end}
 use Rattle.td_cli.specs.Clashes.{IsFaultOf, IsOneFile, KeepsFiles, Overwrites, fault_status}
 use Rattle.td_cli.specs.Ends.{AreBad, Ends, Refuses, Shows, ShowsText, TellsFault}
 
@@ -75,7 +76,7 @@ texts_held holds request bytes texts held netlist certificates keep = rw (netlis
 
 -- or since there is this reason
 pub refused : (disk : Disk) (request : Request) (texts : Texts) (reason : Refusal) (ending : Status) (old new : Output)
-    → AreTexts disk.holds request texts → EndsInTime request.command reason → IsRefused request texts reason → IsUnreported request ending old new
+    → AreTexts disk.holds request texts → EndsByStop (can_end request.command) reason → IsRefused request texts reason → IsUnreported request ending old new
     → (ending ≡ status_of reason) ⊎ (ending ≡ status.Device) → Carries disk request ending old new
 refused disk request texts reason ending old new held timely is unreported (inl same) = inr (
   unreported,
@@ -95,7 +96,7 @@ refused disk request texts reason ending old new held timely is unreported (inr 
 -- an outcome that is true of what was read was printed
 pub carried : (disk : Disk) (request : Request) (texts : Texts) (outcome : Outcome) (ending : Status) (old new : Output)
     → conflict_of request ≡ None → KeepsFiles disk request → AreTexts disk.holds request texts
-    → IsTrueOutcome request texts outcome → IsPrintOf request texts outcome → Prints request outcome ending old new → Carries disk request ending old new
+    → IsTrueOutcome request texts outcome → IsPrintOf (can_end request.command) request texts outcome → Prints request outcome ending old new → Carries disk request ending old new
 carried disk request texts outcome ending old new alone apart held says answered prints = inl (record {
   apart = apart;
   alone = alone;

@@ -19,13 +19,14 @@ use Rattle.td_answer.specs.declared.outcome.Outcome.{Outcome}
 use Rattle.td_answer.specs.declared.status.Status.{Status}
 use Rattle.td_answer.specs.declared.status.Status.TheVariants as status
 use Rattle.td_answer.specs.declared.refusal.Refusal.{Refusal}
+use Rattle.td_answer.specs.Ends.{EndsByStop}
 use Rattle.td_answer.specs.Filled.{filled}
 use Rattle.td_answer.specs.Outcomes.{SaysTrue, IsPrintOfCommand, IsRefusedBy}
 use Rattle.td_answer.specs.Statuses.{code_of, status_of}
 use Rattle.td_command.specs.Conflicts.{conflict_of}
 use Rattle.td_cli.specs.Clashes.{HasClash, KeepsFiles}
 use Rattle.td_cli.specs.Asking.{asked_of}
-use Rattle.td_cli.specs.Deadlines.{EndsInTime}
+use Rattle.td_cli.specs.Deadlines.{can_end}
 use Rattle.td_cli.specs.Files.{outputs_of, certificate_names, keep_file}
 
 -- a report in its form
@@ -84,7 +85,7 @@ pub record PrintsTrue (disk : Disk) (request : Request) (ending : Status) (old n
   pub held : Holds disk.holds request netlist certificates (option_map (λ text. text.now) keep)
   pub outcome : Outcome
   pub is_true : SaysTrue (filled keep request.command) netlist request.reading certificates outcome
-  pub answered : IsPrintOfCommand (filled keep request.command) netlist request.reading outcome
+  pub answered : IsPrintOfCommand (can_end request.command) (filled keep request.command) netlist request.reading outcome
   pub prints : Prints request outcome ending old new
 
 -- a reason that holds of what the files hold that the request names; the program ends with its
@@ -95,7 +96,7 @@ pub record HasReason (holds : List ℕ → List ℕ → Type 0) (request : Reque
   pub keep : Option (Bor (List ℕ))
   pub held : Holds holds request netlist certificates (option_map (λ text. text.now) keep)
   pub reason : Refusal
-  pub timely : EndsInTime request.command reason
+  pub timely : EndsByStop (can_end request.command) reason
   pub is : IsRefusedBy (filled keep request.command) netlist request.reading certificates reason
   pub ends : ending ≡ status_of reason
 

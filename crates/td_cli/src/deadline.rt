@@ -18,12 +18,11 @@ pub(crate) struct Deadline<'a, 'w, A> {
 
 impl<'a, 'w, A: Advice> Deadline<'a, 'w, A> {
     ghost use Rattle.std.specs.Prelude.{◌≡◌, ◌||◌, is_some};
-    ghost use Rattle.td_cli.specs.Deadlines.{seconds_asked, file_asked};
+    ghost use Rattle.td_cli.specs.Deadlines.{can_end};
 
     /// What ends the run of a request.
     pub(crate) fn of(request: &Request<'w>, advice: &'a A) -> Self
-        ensures seconds { is_some result.seconds ≡ is_some (seconds_asked request.now.command) }
-        ensures file { result.file ≡ file_asked request.now.command }
+        ensures { (is_some result.seconds || is_some result.file) ≡ can_end request.now.command }
     {
         let seconds = seconds_asked(&request.command);
         let file = file_asked(&request.command);
@@ -50,7 +49,12 @@ impl<'a, 'w, A: Advice> Deadline<'a, 'w, A> {
     }
 
     /// The stop of the run, set where the run ends before it begins.
-    pub(crate) fn stop(&self) -> Stop {
+    pub(crate) fn stop(&self) -> Stop
+        ensures { result.can_be_set ≡ (is_some self.now.seconds || is_some self.now.file) }
+    {
+        if !self.can_come() {
+            return Stop::never();
+        }
         let stop = Stop::new();
         if self.is_given() {
             stop.ask();

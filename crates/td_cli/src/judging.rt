@@ -1,7 +1,7 @@
 //! The outcome of a request on the texts of its files.
 
-ghost use Rattle.std.specs.Prelude.{◌≡◌, true, IfErr, IfSome};
-ghost use Rattle.td_cli.specs.Deadlines.{EndsInTime, is_search};
+ghost use Rattle.std.specs.Prelude.{IfSome};
+ghost use Rattle.td_cli.specs.Deadlines.{can_end};
 ghost use Rattle.td_cli.specs.Judging.{IsAnswered};
 
 use crate::advice::Advice;
@@ -22,9 +22,7 @@ use td_stop::{Stop, Timer};
 use td_text::Sink;
 
 /// Whether a request asks for the progress of its search.
-pub(crate) fn shows_progress(request: &Request<'_>) -> bool
-    ensures { result ≡ true → is_search request.now.command ≡ true }
-{
+pub(crate) fn shows_progress(request: &Request<'_>) -> bool {
     match &request.command {
         Command::Worst(search) => search.shown.progress,
         _ => false,
@@ -42,9 +40,7 @@ pub(crate) fn judged<'n, 'c, 'w, R: Threads + Wait + Clock + Sync, E: Sink, A: A
     err: &mut E,
     advice: &A,
 ) -> Option<Result<Outcome, Refusal<'n, 'w>>>
-    ensures answered { IfSome result (IsAnswered request.now texts.now) }
-    // A run is out of time only where it is to end after some seconds.
-    ensures timely { IfSome result (λ found. IfErr found (EndsInTime request.now.command)) }
+    ensures { IfSome result (IsAnswered (can_end request.now.command) request.now texts.now) }
 {
     let case = Case { request, texts };
     let deadline = Deadline::of(request, advice);
@@ -64,12 +60,13 @@ pub(crate) fn judged<'n, 'c, 'w, R: Threads + Wait + Clock + Sync, E: Sink, A: A
 struct Answering<'n, 'c, 'w> {
     request: Snapshot<Request<'w>>,
     texts: Snapshot<Texts<'n, 'c, 'w>>,
+    can_stop: bool,
 }
 
 impl<'n, 'c, 'w> Promise<Result<Outcome, Refusal<'n, 'w>>> for Answering<'n, 'c, 'w> {
     ghost use Rattle.td_cli.specs.Judging.{IsAnswered};
 
-    ghost kept_by = { λ promise found. IsAnswered promise.request.value promise.texts.value found };
+    ghost kept_by = { λ promise found. IsAnswered promise.can_stop promise.request.value promise.texts.value found };
 }
 
 /// A request, and the texts of its files.
@@ -80,8 +77,7 @@ struct Case<'r, 'n, 'c, 'w> {
 }
 
 impl<'r, 'n, 'c, 'w> Case<'r, 'n, 'c, 'w> {
-    ghost use Rattle.std.specs.Prelude.{IfErr, IfSome};
-    ghost use Rattle.td_answer.specs.Ends.{EndsByStop};
+    ghost use Rattle.std.specs.Prelude.{◌||◌, is_some, IfSome};
     ghost use Rattle.td_cli.specs.Judging.{IsAnswered};
 
     /// The outcome, of a search that ends once the stop is set.
@@ -92,8 +88,7 @@ impl<'r, 'n, 'c, 'w> Case<'r, 'n, 'c, 'w> {
         stop: &Stop,
         watch: &mut W,
     ) -> Result<Outcome, Refusal<'n, 'w>>
-        ensures answered { IsAnswered self.entry.request.now self.entry.texts.now result }
-        ensures stopped { IfErr result (EndsByStop stop.now.can_be_set) }
+        ensures { IsAnswered stop.now.can_be_set self.entry.request.now self.entry.texts.now result }
     {
         answer(rt, alloc, self.request, self.texts, stop, watch)
     }
@@ -107,7 +102,7 @@ impl<'r, 'n, 'c, 'w> Case<'r, 'n, 'c, 'w> {
         is_asked: bool,
         board: &Board,
     ) -> Result<Outcome, Refusal<'n, 'w>>
-        ensures { IsAnswered self.entry.request.now self.entry.texts.now result }
+        ensures { IsAnswered stop.now.can_be_set self.entry.request.now self.entry.texts.now result }
     {
         let mut watch = ProgressLines::new(rt, alloc, is_asked, board);
         self.answered(rt, alloc, stop, &mut watch)
@@ -124,7 +119,7 @@ impl<'r, 'n, 'c, 'w> Case<'r, 'n, 'c, 'w> {
         is_asked: bool,
         err: &mut E,
     ) -> Option<Result<Outcome, Refusal<'n, 'w>>>
-        ensures { IfSome result (IsAnswered self.entry.request.now self.entry.texts.now) }
+        ensures { IfSome result (IsAnswered (is_some deadline.now.seconds || is_some deadline.now.file) self.entry.request.now self.entry.texts.now) }
     {
         let case = self;
         let timer = &Timer::new();
@@ -134,15 +129,16 @@ impl<'r, 'n, 'c, 'w> Case<'r, 'n, 'c, 'w> {
             thread::scope_env(),
             rt,
             |scope| -> Option<Result<Outcome, Refusal<'_, '_>>>
-                ensures { IfSome result (IsAnswered case.entry.request.now case.entry.texts.now) }
+                ensures { IfSome result (IsAnswered stop.now.can_be_set case.entry.request.now case.entry.texts.now) }
             {
                 let promise = Answering {
                     request: Snapshot::of(case.request),
                     texts: Snapshot::of(case.texts),
+                    can_stop: stop.can_be_set,
                 };
                 let mut waiting = Waiting::new(rt, alloc, is_asked, deadline, stop, board, err);
                 let job = move || -> Result<Outcome, Refusal<'_, '_>>
-                    ensures { IsAnswered case.entry.request.now case.entry.texts.now result }
+                    ensures { IsAnswered stop.now.can_be_set case.entry.request.now case.entry.texts.now result }
                 {
                     let found = case.watched(rt, alloc, stop, is_asked, board);
                     timer.end(rt);

@@ -114,7 +114,7 @@ returns-then-not-is_empty-clause-certified g c =
 
 pub returns-clause-answered : goal.returns-clause-answered
 returns-clause-answered g c =
-    printed_without c.args.text.now c.args.reading.now c.args.search.now c.in_ok-outcome.outcome (without c.args.search.now.question c.in_ok-asked.asked.circuit.netlist c.in_ok-asked.asked.keep.items c.in_ok-asked.ensures.keep
+    printed_without c.args.stop.now.can_be_set c.args.text.now c.args.reading.now c.args.search.now c.in_ok-outcome.outcome (without c.args.search.now.question c.in_ok-asked.asked.circuit.netlist c.in_ok-asked.asked.keep.items c.in_ok-asked.ensures.keep
     (no_rows c.in_ok-asked.asked.keep.items (sym c.in_ok-asked.asked.keep.ok.0 ∙ eqb-true _ _ (sym c.is_empty.ensures ∙ c.if-not-is_empty.false))))
     (record {
       setting = setting c.in_ok-asked.asked.circuit;
@@ -124,6 +124,7 @@ returns-clause-answered g c =
       answer = rw (c.method_of-method.ensures, c.limits_of-limits.ensures.budget) at c.in_ok-found.ensures.answer;
       first = rw (c.method_of-method.ensures, c.limits_of-limits.ensures.budget) at c.in_ok-found.ensures.first;
       edges = rw (c.method_of-method.ensures, c.limits_of-limits.ensures.budget) at c.in_ok-found.ensures.edges;
+      timely = rw c.limits_of-limits.ensures.stop at c.in_ok-found.ensures.time;
       ended = record { search = c.args.search; was_asked = c.was_asked.result; work = c.in_ok-found.found.work };
       of = refl;
       more = c.in_ok-outcome.ensures.report.0;
@@ -132,8 +133,8 @@ returns-clause-answered g c =
 
 pub returns-then-not-is_empty-clause-answered : goal.returns-then-not-is_empty-clause-answered
 returns-then-not-is_empty-clause-answered g c =
-    IfOk-weaker c.worst_kept.result (IsTrueKept c.args.text.now c.args.reading.now c.args.search.now) (IsPrintOfSearch c.args.text.now c.args.reading.now c.args.search.now)
-    (λ outcome is. printed_with c.args.text.now c.args.reading.now c.args.search.now outcome
+    IfOk-weaker c.worst_kept.result (IsTrueKept c.args.text.now c.args.reading.now c.args.search.now) (IsPrintOfSearch c.args.stop.now.can_be_set c.args.text.now c.args.reading.now c.args.search.now)
+    (λ outcome is. printed_with c.args.stop.now.can_be_set c.args.text.now c.args.reading.now c.args.search.now outcome
     (with_some c.args.search.now.question c.in_ok-asked.asked.circuit.netlist c.in_ok-asked.asked.keep.items c.in_ok-asked.ensures.keep
     (λ none. eqb-false _ _ (sym c.is_empty.ensures ∙ c.if-not-is_empty.true) (c.in_ok-asked.asked.keep.ok.0 ∙ ap (λ keep. length keep) none))))
     c.worst_kept.ensures.says

@@ -11,7 +11,7 @@ returns-in-Ok-found g c =
     carried disk c.args.request.now c.texts-texts.result c.in-Ok-found.outcome _ _ _ c.in-Ok.ensures.clear.0 c.in-Ok.ensures.clear.1
     (texts_held disk.holds c.args.request.now c.in-Ok.bytes c.texts-texts.result c.in-Ok.ensures.held
     c.texts-texts.ensures.netlist c.texts-texts.ensures.certificates c.texts-texts.ensures.keep)
-    (rw c.in-Ok-found.is at c.in-Some.ensures.answered.says) (rw c.in-Ok-found.is at c.in-Some.ensures.answered.answered) c.finish.ensures
+    (rw c.in-Ok-found.is at c.in-Some.ensures.says) (rw c.in-Ok-found.is at c.in-Some.ensures.answered) c.finish.ensures
 
 pub returns : goal.returns
 returns g c =
@@ -19,4 +19,4 @@ returns g c =
     refused disk c.args.request.now c.texts-texts.result c.in-Err-found.refusal _ _ _
     (texts_held disk.holds c.args.request.now c.in-Ok.bytes c.texts-texts.result c.in-Ok.ensures.held
     c.texts-texts.ensures.netlist c.texts-texts.ensures.certificates c.texts-texts.ensures.keep)
-    (rw c.in-Err-found.is at c.in-Some.ensures.timely) (rw c.in-Err-found.is at c.in-Some.ensures.answered.refusal) c.refuse.ensures.shown c.refuse.ensures.ends
+    (rw c.in-Err-found.is at c.in-Some.ensures.stopped) (rw c.in-Err-found.is at c.in-Some.ensures.refusal) c.refuse.ensures.shown c.refuse.ensures.ends
