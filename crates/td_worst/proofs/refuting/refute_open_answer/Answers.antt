@@ -57,6 +57,6 @@ returns-in-Err-clause-answer g c =
 pub returns-in-Ok-Some-clause-within : goal.returns-in-Ok-Some-clause-within
 returns-in-Ok-Some-clause-within g c =
     let within = c.refuted-answer.ensures.within (problem_of c.args.problem.now) c.search-found.ensures.best
-    (rw (c.in-Ok-Some.is, c.in-Ok-Some.field-0-is) at c.search-found.ensures.shown).steps in
+    (rw (c.in-Ok-Some.is, c.in-Ok-Some.field-0-is) at c.search-found.ensures.shown) in
     rw c.with_steps.ensures.answer (if_some _ _ (λ (steps : Refuted) same. subst (IsWithinSteps (high_of c.refuted-answer.result)) (sym same) within)
     c.with_steps.result.refuted c.with_steps.ensures.steps)
