@@ -303,19 +303,34 @@ class Figure:
                 lines.append("none: no pair keeps the conditions")
             elif key in found:
                 said = found[key]
-                lines.append(f"{key} {' '.join(said) if isinstance(said, list) else said}")
+                named = isinstance(said, list)
+                lines.append(f"{key} {' '.join(it['name'] for it in said) if named else said}")
             if key == "bound" and "between" in found:
                 ends = ("none" if end is None else str(end) for end in found["between"])
                 lines.append(f"between {' '.join(ends)}")
         lines += found.get("equal", [])
         for each in found.get("each", []):
-            lines.append("each " + " ".join(map(str, each)))
+            lines.append("each " + " ".join(words_in(each)))
         for key in ("first", "second"):
             if key in found:
                 lines.append(
                     f"{key} " + " ".join(f"{name}={level}" for name, level in found[key].items())
                 )
         return lines + [f"path {step}" for step in found.get("path", [])]
+
+
+def words_in(row: dict) -> List[str]:
+    """The words of a row of outputs, as its line has them."""
+    found = [row["output"]]
+    for key, said in list(row.items())[1:]:
+        inner = isinstance(said, dict)
+        known = next(iter(said.values())) if inner else said
+        ends = known if isinstance(known, list) else [known]
+        words = ["none" if end is None or (inner and end is True) else str(end) for end in ends]
+        if inner:
+            words = ["never" if words == ["0"] and key != "slack" else "..".join(words)]
+        found += ["required" if key == "standing" else key, *words * (said is not True)]
+    return found
 
 
 def for_bound(words: List[str]) -> List[str]:

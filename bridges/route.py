@@ -30,14 +30,14 @@ def plain(net: str) -> str:
     return net.replace("\\", "").replace(" ", "")
 
 
-def path_lines(cells: Cells, changes: List[list]) -> List[str]:
+def path_lines(cells: Cells, changes: List[dict]) -> List[str]:
     """A line for each change of a report that isn't inside a cell."""
     lines, before = [], ""
-    for moment, net, _, level, *_ in changes:
-        name = plain(net)
+    for change in changes:
+        name = plain(change["net"])
         if cells.inside(name):
             continue
         how = cells.step(name, before) if before else "input"
-        lines.append(f"{moment} {name} {EDGES[level]} {how}")
+        lines.append(f"{change['time']} {name} {EDGES[change['new']]} {how}")
         before = name
     return lines

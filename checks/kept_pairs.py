@@ -218,8 +218,8 @@ def compare_parts(setup, options, worst):
         return []
     parts = dict(reports.lines_of_json(lines))["parts"]
     kinds, names = ["parts"], []
-    for place, words in enumerate(parts):
-        words = [word for word in words if word not in setup.defaults]
+    for place, part in enumerate(parts):
+        words = [word for word in dict(part)["options"] if word not in setup.defaults]
         name = f"part-{place}"
         setup.tested.remove(name)
         done = setup.tested.run_bytes("worst", "t.v", "--cert", name, *words)

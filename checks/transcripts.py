@@ -12,8 +12,9 @@ case, and there are 400 at least, half of which print something.
 A command that is one call of `tdelay`, and prints a report, is called once more with `--json`: it
 prints one JSON object then, and what Python reads is what the lines say (lib/reports.py), by the
 table of docs/MANUAL.md. Each of these is a case too, and there are 90 at least. Each is also held
-against docs/report.schema.json, if Python has the module jsonschema. And it is called with
-`--quiet`, prints nothing on standard output then, and ends as without it: another case.
+against docs/report.schema.json, and so is each report in JSON that a transcript shows, if Python
+has the module jsonschema. And it is called with `--quiet`, prints nothing on standard output then,
+and ends as without it: another case.
 """
 
 import glob
@@ -103,6 +104,9 @@ def try_transcript(tested, path):
                     "\n".join([f"{os.path.basename(path)}:{number}: {command}", *differing])
                 )
             tested.case(*["with an output"] * bool(lines))
+            for report in [line for line in lines if line.startswith('{"proved":')]:
+                for fault in schema.faults(report):
+                    tested.fault(f"{os.path.basename(path)}:{number}: {command}: {fault}")
             if ran.out and ALONE.fullmatch(command) and not OTHER.search(command):
                 try_json(tested, command, ran, folder, environment)
                 try_quiet(tested, command, ran, folder, environment)

@@ -85,20 +85,24 @@ def accepted_time(report):
     )
 
 
-# What the lines of a report are by their keys: one number, a claim, several numbers, or a row of
-# fields of which those at these places are numbers. Those of LISTED come several times; all others are texts.
+# What the lines of a report are by their keys: one number, a claim, two numbers, or a row of fields
+# with keys, of which those of COUNTS are numbers. Those of LISTED come several times; all others
+# are texts.
 NUMBER = "time a t m e n earliest exact nodes units flips inputs outputs gates defaulted depth".split()
 CLAIMS = "accepted unchecked".split()
-NUMBERS = "between delay at".split()
-ROWS = {"last": {1}, "change": {0, 5}, "input": {0}, "output": {0}, "refused": {0, 3}}
-ROWS["hazard"] = set()
-ROWS["required"] = {0}
+ROWS = {
+    "last": "output time",
+    "change": "time net old new by delay",
+    "input": "index name",
+    "output": "index name",
+    "refused": "number verdict - line",
+    "hazard": "output level answer from to",
+    "required": "time standing",
+    "delay": "least greatest",
+    "default": "rise fall",
+}
+COUNTS = "time delay index number line least greatest rise fall".split()
 LISTED = "last change input output each hazard".split()
-# The fields of a line `each` that say what the next ones are; all but these and the name are
-# numbers.
-FIGURES = "exact between edges".split()
-# Those of its columns of changes.
-CHANGES = "rise fall glitch".split()
 # A row of outputs: its name, its figures, its bound by edges, and how a required moment stands.
 ROW = (
     r"(?m)^each (.*) (?:exact (\d+)|between (\d+) (\d+)) edges (\d+|none)"
@@ -112,29 +116,43 @@ def number_in(word):
     return int(word) if word.isdigit() else None
 
 
+def figure_in(words, read=number_in):
+    """What words say of a figure, as a member: how far it is known, and it or both of it."""
+    if words == ["none"]:
+        return ("none", True)
+    figures = [read(word) for word in words]
+    return ("exact", figures[0]) if len(figures) == 1 else ("between", figures)
+
+
 def column_in(word):
     """The value in JSON of a column of changes."""
-    if ".." in word:
-        return [number_in(moment) for moment in word.split("..")]
-    return word if word == "none" else number_in(word)
+    return [figure_in(["0"] if word == "never" else word.split(".."))]
 
 
 def slack_in(word):
     """The value in JSON of a slack, or of two."""
-    if ".." in word:
-        return [None if slack == "none" else int(slack) for slack in word.split("..")]
-    return word if word == "none" else int(word)
+    return [figure_in(word.split(".."), lambda slack: None if slack == "none" else int(slack))]
 
 
-def each_in(name, found, *rest):
+def each_in(name, *rest):
     """The value of a row of outputs in JSON."""
-    end = rest.index("required") if "required" in rest else len(rest)
-    place = rest.index("rise") if "rise" in rest else end
-    pair = rest.index("from") if "from" in rest else place
-    figures = [word if word in FIGURES else number_in(word) for word in rest[:pair]]
-    columns = [word if word in CHANGES else column_in(word) for word in rest[place:end]]
-    slack = [*rest[end : end + 3], *map(slack_in, rest[end + 3 :])]
-    return [name, found, *figures, *rest[pair:place], *columns, *slack]
+    place = rest.index("edges")
+    found = rest[:place] if rest[0] == "none" else rest[1:place]
+    row = [("output", name), figure_in(list(found)), ("edges", number_in(rest[place + 1]))]
+    for key, word in zip(rest[place + 2 :: 2], rest[place + 3 :: 2]):
+        if key in ("from", "to"):
+            row.append((key, word))
+        elif key == "required":
+            row.append(("standing", word))
+        else:
+            row.append((key, slack_in(word) if key == "slack" else column_in(word)))
+    return row
+
+
+def row_in(key, fields):
+    """The value in JSON of a row of fields with keys."""
+    named = zip(ROWS[key].split(), fields)
+    return [(name, number_in(it) if name in COUNTS else it) for name, it in named if name != "-"]
 
 
 def value_in(key, text):
@@ -143,23 +161,18 @@ def value_in(key, text):
     if key in NUMBER:
         return number_in(text)
     if key in CLAIMS:
-        numbers = [number_in(word) for word in fields if word.isdigit()]
-        return "none" if not numbers else numbers if fields[0] == "between" else numbers[0]
+        return [figure_in([word for word in fields if word != "between"])]
     if key == "none":
         return True
-    if key in NUMBERS:
-        return None if text == "none" else [number_in(word) for word in fields]
-    if key == "output" and all(word.isdigit() for word in fields):
-        return [number_in(word) for word in fields]  # the outputs that a certificate names
+    if key == "delay" and text == "none":
+        return None
+    if key in ("between", "at"):
+        return [number_in(word) for word in fields if key == "between" or word != "none"]
     if key == "output" and not text[:1].isdigit():
-        return text  # a name alone: the output that changes last
+        return [("name", text)]  # a name alone: the output that changes last
     if key == "each":
         return each_in(*fields)
-    if key in ROWS:
-        return [
-            number_in(word) if place in ROWS[key] else word for place, word in enumerate(fields)
-        ]
-    return text
+    return row_in(key, fields) if key in ROWS else text
 
 
 def as_json(report):
@@ -168,7 +181,9 @@ def as_json(report):
     for line in report.splitlines():
         key, _, text = line.partition(" ")
         if line.startswith("--"):
-            found.setdefault("parts", []).append(line.split(" "))
+            found.setdefault("parts", []).append([("options", line.split(" "))])
+        elif key == "output" and all(word.isdigit() for word in text.split(" ")):
+            found[key] = [[("index", int(word))] for word in text.split(" ")]  # of a certificate
         elif key in LISTED:
             found.setdefault(key, []).append(value_in(key, text))
         else:
@@ -208,10 +223,13 @@ def asked_in(words):
         value = value if "=" in word else words.pop(0)
         is_named = option in NAMED or (option == "--at" and "=" in value)
         key = "named" if is_named else ASKED[option]
-        values.setdefault(key, []).append([option, value] if is_named else value)
+        named = {"option": option, "word": value}
+        values.setdefault(key, []).append(named if is_named else value)
     command, file = left[:2]
     question = {
-        "default": [int(values.get(f"default_{edge}", ["1"])[-1]) for edge in ("rise", "fall")],
+        "default": {
+            edge: int(values.get(f"default_{edge}", ["1"])[-1]) for edge in ("rise", "fall")
+        },
         "output": values.get("output", []),
     }
     if command in ("sim", "path"):

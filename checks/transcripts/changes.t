@@ -108,11 +108,11 @@ Where a search is cut short, its column is open. A glitch that is only asked whe
 As JSON, and by two workers.
 
   $ tdelay worst hazard.v --each --changes --json
-  {"proved":true,"command":"worst","file":"hazard.v","question":{"default":[1,1],"output":[],"named":[]},"unit":"1 ns","defaulted":0,"each":[["y","exact",5,"edges",5,"rise",5,"fall",5,"glitch",5]]}
+  {"proved":true,"command":"worst","file":"hazard.v","question":{"default":{"rise":1,"fall":1},"output":[],"named":[]},"unit":"1 ns","defaulted":0,"each":[{"output":"y","exact":5,"edges":5,"rise":{"exact":5},"fall":{"exact":5},"glitch":{"exact":5}}]}
   $ tdelay worst levels.v --each --changes --figures --json
-  {"proved":true,"command":"worst","file":"levels.v","question":{"default":[1,1],"output":[],"named":[]},"unit":"1 ns","defaulted":0,"each":[["y","exact",2,"edges",2,"rise",2,"fall",2,"glitch",null],["z","exact",0,"edges",4,"rise","none","fall","none","glitch",null],["k","exact",0,"edges",0,"rise","none","fall","none","glitch",null]]}
+  {"proved":true,"command":"worst","file":"levels.v","question":{"default":{"rise":1,"fall":1},"output":[],"named":[]},"unit":"1 ns","defaulted":0,"each":[{"output":"y","exact":2,"edges":2,"rise":{"exact":2},"fall":{"exact":2},"glitch":{"exact":0}},{"output":"z","exact":0,"edges":4,"rise":{"none":true},"fall":{"none":true},"glitch":{"exact":0}},{"output":"k","exact":0,"edges":0,"rise":{"none":true},"fall":{"none":true},"glitch":{"exact":0}}]}
   $ tdelay worst c17.v --each --changes --budget 0 --json
-  {"proved":true,"command":"worst","file":"c17.v","question":{"default":[1,1],"output":[],"named":[]},"unit":"1 ns","defaulted":6,"each":[["N22","between",2,3,"edges",3,"rise",[null,3],"fall",[null,3],"glitch",[null,3]],["N23","between",3,3,"edges",3,"rise",[null,3],"fall",[null,3],"glitch",[null,3]]]}
+  {"proved":true,"command":"worst","file":"c17.v","question":{"default":{"rise":1,"fall":1},"output":[],"named":[]},"unit":"1 ns","defaulted":6,"each":[{"output":"N22","between":[2,3],"edges":3,"rise":{"between":[null,3]},"fall":{"between":[null,3]},"glitch":{"between":[null,3]}},{"output":"N23","between":[3,3],"edges":3,"rise":{"between":[null,3]},"fall":{"between":[null,3]},"glitch":{"between":[null,3]}}]}
   [3]
   $ tdelay worst c17.v --each --changes --figures --workers 2
   unit 1 ns

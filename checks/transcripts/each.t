@@ -87,9 +87,9 @@ Options that say what is asked go along. The whole budget is each output's. Wher
 As JSON, and from standard input.
 
   $ tdelay worst two.v --each --json
-  {"proved":true,"command":"worst","file":"two.v","question":{"default":[1,1],"output":[],"named":[]},"unit":"1 ns","defaulted":1,"each":[["y","exact",2,"edges",2],["\\z+ [1]","exact",5,"edges",5],["\\z+ [0]","exact",1,"edges",1]]}
+  {"proved":true,"command":"worst","file":"two.v","question":{"default":{"rise":1,"fall":1},"output":[],"named":[]},"unit":"1 ns","defaulted":1,"each":[{"output":"y","exact":2,"edges":2},{"output":"\\z+ [1]","exact":5,"edges":5},{"output":"\\z+ [0]","exact":1,"edges":1}]}
   $ tdelay worst two.v --json --each --budget 0
-  {"proved":true,"command":"worst","file":"two.v","question":{"default":[1,1],"output":[],"named":[]},"unit":"1 ns","defaulted":1,"each":[["y","between",2,2,"edges",2],["\\z+ [1]","between",4,5,"edges",5],["\\z+ [0]","between",0,1,"edges",1]]}
+  {"proved":true,"command":"worst","file":"two.v","question":{"default":{"rise":1,"fall":1},"output":[],"named":[]},"unit":"1 ns","defaulted":1,"each":[{"output":"y","between":[2,2],"edges":2},{"output":"\\z+ [1]","between":[4,5],"edges":5},{"output":"\\z+ [0]","between":[0,1],"edges":1}]}
   [3]
   $ tdelay worst - --each < two.v
   unit 1 ns
@@ -107,7 +107,7 @@ With `--vectors` a row has a pair that shows its figure, in JSON too, where one 
   each \z+ [1] exact 5 edges 5 from 10 to 01
   each \z+ [0] exact 1 edges 1 from 00 to 01
   $ tdelay worst two.v --each --vectors --json
-  {"proved":true,"command":"worst","file":"two.v","question":{"default":[1,1],"output":[],"named":[]},"unit":"1 ns","defaulted":1,"each":[["y","exact",2,"edges",2,"from","00","to","11"],["\\z+ [1]","exact",5,"edges",5,"from","10","to","01"],["\\z+ [0]","exact",1,"edges",1,"from","00","to","01"]]}
+  {"proved":true,"command":"worst","file":"two.v","question":{"default":{"rise":1,"fall":1},"output":[],"named":[]},"unit":"1 ns","defaulted":1,"each":[{"output":"y","exact":2,"edges":2,"from":"00","to":"11"},{"output":"\\z+ [1]","exact":5,"edges":5,"from":"10","to":"01"},{"output":"\\z+ [0]","exact":1,"edges":1,"from":"00","to":"01"}]}
   $ tdelay worst two.v --vectors --budget 0 --each
   unit 1 ns
   defaulted 1
@@ -203,7 +203,7 @@ Without outputs there is no line.
   unit 1 ns
   defaulted 0
   $ tdelay worst bare.v --each --json
-  {"proved":true,"command":"worst","file":"bare.v","question":{"default":[1,1],"output":[],"named":[]},"unit":"1 ns","defaulted":0}
+  {"proved":true,"command":"worst","file":"bare.v","question":{"default":{"rise":1,"fall":1},"output":[],"named":[]},"unit":"1 ns","defaulted":0}
 
 Options that belong to one answer: the first of them is named, and no file is read or written.
 
@@ -229,7 +229,7 @@ Options that belong to one answer: the first of them is named, and no file is re
   tdelay: --each doesn't go together with --cert: write --output NAME in place of --each
   [2]
   $ tdelay worst two.v --each --outputs --json
-  {"proved":true,"command":"worst","file":"two.v","question":{"default":[1,1],"output":[],"named":[]},"error":{"kind":"command","message":"--each doesn't go together with --outputs: leave one of them out"},"status":2}
+  {"proved":true,"command":"worst","file":"two.v","question":{"default":{"rise":1,"fall":1},"output":[],"named":[]},"error":{"kind":"command","message":"--each doesn't go together with --outputs: leave one of them out"},"status":2}
   tdelay: --each doesn't go together with --outputs: leave one of them out
   [2]
   $ ls

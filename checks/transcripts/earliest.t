@@ -43,7 +43,7 @@ No output changes where nothing does, where what is pinned keeps it, and where t
   m 0
   earliest none
   $ tdelay bound gated.v --pin b=0 --earliest --json
-  {"proved":true,"command":"bound","file":"gated.v","question":{"default":[1,1],"output":[],"named":[["--pin","b=0"]]},"unit":"1 ns","defaulted":0,"a":0,"t":0,"m":0,"earliest":null}
+  {"proved":true,"command":"bound","file":"gated.v","question":{"default":{"rise":1,"fall":1},"output":[],"named":[{"option":"--pin","word":"b=0"}]},"unit":"1 ns","defaulted":0,"a":0,"t":0,"m":0,"earliest":null}
   $ cat > none.v <<'END'
   > module t;
   > endmodule

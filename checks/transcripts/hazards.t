@@ -140,11 +140,11 @@ Where a search is cut short, its row is open.
 As JSON, by two workers, and without outputs.
 
   $ tdelay worst hazard.v --hazards --json
-  {"proved":true,"command":"worst","file":"hazard.v","question":{"default":[1,1],"output":[],"named":[]},"unit":"1 ns","defaulted":0,"hazard":[["y","0","can","000","101"],["y","1","can","110","001"]]}
+  {"proved":true,"command":"worst","file":"hazard.v","question":{"default":{"rise":1,"fall":1},"output":[],"named":[]},"unit":"1 ns","defaulted":0,"hazard":[{"output":"y","level":"0","answer":"can","from":"000","to":"101"},{"output":"y","level":"1","answer":"can","from":"110","to":"001"}]}
   $ tdelay worst levels.v --hazards --json
-  {"proved":true,"command":"worst","file":"levels.v","question":{"default":[1,1],"output":[],"named":[]},"unit":"1 ns","defaulted":0,"hazard":[["y","0","never"],["y","1","never"],["z","0","never"],["z","1","none"],["k","0","none"],["k","1","never"]]}
+  {"proved":true,"command":"worst","file":"levels.v","question":{"default":{"rise":1,"fall":1},"output":[],"named":[]},"unit":"1 ns","defaulted":0,"hazard":[{"output":"y","level":"0","answer":"never"},{"output":"y","level":"1","answer":"never"},{"output":"z","level":"0","answer":"never"},{"output":"z","level":"1","answer":"none"},{"output":"k","level":"0","answer":"none"},{"output":"k","level":"1","answer":"never"}]}
   $ tdelay worst c17.v --hazards --budget 0 --json
-  {"proved":true,"command":"worst","file":"c17.v","question":{"default":[1,1],"output":[],"named":[]},"unit":"1 ns","defaulted":6,"hazard":[["N22","0","open"],["N22","1","open"],["N23","0","open"],["N23","1","open"]]}
+  {"proved":true,"command":"worst","file":"c17.v","question":{"default":{"rise":1,"fall":1},"output":[],"named":[]},"unit":"1 ns","defaulted":6,"hazard":[{"output":"N22","level":"0","answer":"open"},{"output":"N22","level":"1","answer":"open"},{"output":"N23","level":"0","answer":"open"},{"output":"N23","level":"1","answer":"open"}]}
   [3]
   $ tdelay worst c17.v --hazards --workers 2 --flips 1
   unit 1 ns

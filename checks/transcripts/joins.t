@@ -188,7 +188,7 @@ words or none. The words of a narrower question ask for that alone, and the repo
   to 00
   nodes 9
   $ tdelay join two.v part-1 part-2 part-3 --no-check --json
-  {"proved":true,"command":"join","file":"two.v","question":{"default":[1,1],"output":[],"named":[]},"unit":"1 ns","defaulted":0,"unchecked":2,"from":"11","to":"00","nodes":9}
+  {"proved":true,"command":"join","file":"two.v","question":{"default":{"rise":1,"fall":1},"output":[],"named":[]},"unit":"1 ns","defaulted":0,"unchecked":{"exact":2},"from":"11","to":"00","nodes":9}
   $ sed 's/^time .*/time 1/' part-2 > wrong; tdelay join two.v part-1 wrong part-3
   tdelay: wrong: refused 2 PairTime
   [4]
@@ -272,7 +272,7 @@ Of a certificate of version 4 what isn't plain.
   accepted 2
   flips 1
   $ tdelay join two.v low high --flips 1 --json
-  {"proved":true,"command":"join","file":"two.v","question":{"default":[1,1],"output":[],"named":[],"flips":1},"unit":"1 ns","defaulted":0,"exact":2,"from":"01","to":"11","nodes":3,"flips":1}
+  {"proved":true,"command":"join","file":"two.v","question":{"default":{"rise":1,"fall":1},"output":[],"named":[],"flips":1},"unit":"1 ns","defaulted":0,"exact":2,"from":"01","to":"11","nodes":3,"flips":1}
 
 The output and the default delays, of which certificates of versions 1 to 3 say nothing.
 
@@ -345,7 +345,7 @@ Parts that were cut short are joined where they have a certificate of both figur
   nodes 3
   [3]
   $ tdelay join late.v high low --no-check --json
-  {"proved":true,"command":"join","file":"late.v","question":{"default":[1,1],"output":[],"named":[]},"unit":"1 ns","defaulted":0,"unchecked":[3,5],"from":"00","to":"11","nodes":3}
+  {"proved":true,"command":"join","file":"late.v","question":{"default":{"rise":1,"fall":1},"output":[],"named":[]},"unit":"1 ns","defaulted":0,"unchecked":{"between":[3,5]},"from":"00","to":"11","nodes":3}
   [3]
   $ tdelay check late.v whole; paste -sd, whole
   accepted between 3 5
@@ -372,7 +372,7 @@ A required moment is met where no part's upper figure is above it, and violated 
   required 2 violated
   [6]
   $ tdelay join late.v low high --required 4 --no-check --json
-  {"proved":true,"command":"join","file":"late.v","question":{"default":[1,1],"output":[],"named":[],"required":4},"unit":"1 ns","defaulted":0,"unchecked":[3,5],"from":"00","to":"11","nodes":3,"required":[4,"open"]}
+  {"proved":true,"command":"join","file":"late.v","question":{"default":{"rise":1,"fall":1},"output":[],"named":[],"required":4},"unit":"1 ns","defaulted":0,"unchecked":{"between":[3,5]},"from":"00","to":"11","nodes":3,"required":{"time":4,"standing":"open"}}
   [3]
   $ tdelay join late.v low high --required 4 --first 0.
   tdelay: high: other pins

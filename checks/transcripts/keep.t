@@ -109,7 +109,7 @@ No pair keeps conditions that contradict each other, or what the netlist settles
   nodes 1
   [1]
   $ tdelay worst hazard.v --keep y=0. --keep y=1. --json
-  {"proved":true,"command":"worst","file":"hazard.v","question":{"default":[1,1],"output":[],"named":[["--keep","y=0."],["--keep","y=1."]]},"unit":"1 ns","defaulted":0,"none":true,"nodes":1}
+  {"proved":true,"command":"worst","file":"hazard.v","question":{"default":{"rise":1,"fall":1},"output":[],"named":[{"option":"--keep","word":"y=0."},{"option":"--keep","word":"y=1."}]},"unit":"1 ns","defaulted":0,"none":true,"nodes":1}
   [1]
 
 Where no pair is admitted whatever it keeps, that is said as without conditions.
@@ -151,7 +151,7 @@ A search that is cut short before it has a pair knows an upper figure alone.
   cause budget
   [3]
   $ tdelay worst hazard.v --keep y=11 --budget 0 --json
-  {"proved":true,"command":"worst","file":"hazard.v","question":{"default":[1,1],"output":[],"named":[["--keep","y=11"]]},"unit":"1 ns","defaulted":0,"between":[null,5],"cause":"budget","units":0}
+  {"proved":true,"command":"worst","file":"hazard.v","question":{"default":{"rise":1,"fall":1},"output":[],"named":[{"option":"--keep","word":"y=11"}]},"unit":"1 ns","defaulted":0,"between":[null,5],"cause":"budget","units":0}
   [3]
 
 Of each output by itself.
@@ -162,7 +162,7 @@ Of each output by itself.
   each N22 exact 3 edges 3
   each N23 exact 3 edges 3
   $ tdelay worst "$NETLISTS/c17.v" --each --keep N22=11 --keep N10=00 --json
-  {"proved":true,"command":"worst","file":"$NETLISTS/c17.v","question":{"default":[1,1],"output":[],"named":[["--keep","N22=11"],["--keep","N10=00"]]},"unit":"1 ns","defaulted":6,"each":[["N22","exact",0,"edges",3],["N23","exact",3,"edges",3]]}
+  {"proved":true,"command":"worst","file":"$NETLISTS/c17.v","question":{"default":{"rise":1,"fall":1},"output":[],"named":[{"option":"--keep","word":"N22=11"},{"option":"--keep","word":"N10=00"}]},"unit":"1 ns","defaulted":6,"each":[{"output":"N22","exact":0,"edges":3},{"output":"N23","exact":3,"edges":3}]}
   $ tdelay worst "$NETLISTS/c17.v" --each --keep N22=11 --budget 0
   unit 1 ns
   defaulted 6

@@ -42,7 +42,7 @@ Its conditions and those of `--keep` are one set, sorted, each once.
   nodes 1
   [1]
   $ tdelay worst hazard.v --each --keep-file rise --json
-  {"proved":true,"command":"worst","file":"hazard.v","question":{"default":[1,1],"output":[],"named":[],"keep_file":"rise"},"unit":"1 ns","defaulted":0,"each":[["y","exact",5,"edges",5]]}
+  {"proved":true,"command":"worst","file":"hazard.v","question":{"default":{"rise":1,"fall":1},"output":[],"named":[],"keep_file":"rise"},"unit":"1 ns","defaulted":0,"each":[{"output":"y","exact":5,"edges":5}]}
 
 A file that says nothing asks about all pairs. It may end in the middle of a line, and have lines that end in a carriage return.
 

@@ -35,7 +35,7 @@ Which output changes last: the line is there where it is asked for and an output
   change 0 a 0 1 input
   change 5 z 1 0 not 5
   $ tdelay sim two.v 00 11 --outputs --json
-  {"proved":true,"command":"sim","file":"two.v","question":{"default":[1,1],"output":[],"from":"00","to":"11","named":[]},"unit":"1 ns","defaulted":0,"last":[["y",2],["z",5]],"time":5,"output":["z"]}
+  {"proved":true,"command":"sim","file":"two.v","question":{"default":{"rise":1,"fall":1},"output":[],"from":"00","to":"11","named":[]},"unit":"1 ns","defaulted":0,"last":[{"output":"y","time":2},{"output":"z","time":5}],"time":5,"output":[{"name":"z"}]}
 
 Which output has the bound m: the line comes after all others, and names the first of several. It isn't there without outputs.
 
@@ -70,7 +70,7 @@ Which output has the bound m: the line comes after all others, and names the fir
   m 2
   output y
   $ tdelay bound two.v --outputs --json
-  {"proved":true,"command":"bound","file":"two.v","question":{"default":[1,1],"output":[],"named":[]},"unit":"1 ns","defaulted":0,"a":5,"t":null,"m":5,"output":["z"]}
+  {"proved":true,"command":"bound","file":"two.v","question":{"default":{"rise":1,"fall":1},"output":[],"named":[]},"unit":"1 ns","defaulted":0,"a":5,"t":null,"m":5,"output":[{"name":"z"}]}
   $ cat > closed.v <<'END'
   > module closed(a);
   > input a;
@@ -83,7 +83,7 @@ Which output has the bound m: the line comes after all others, and names the fir
   t 0
   m 0
   $ tdelay bound closed.v --outputs --json
-  {"proved":true,"command":"bound","file":"closed.v","question":{"default":[1,1],"output":[],"named":[]},"unit":"1 ns","defaulted":0,"a":0,"t":0,"m":0}
+  {"proved":true,"command":"bound","file":"closed.v","question":{"default":{"rise":1,"fall":1},"output":[],"named":[]},"unit":"1 ns","defaulted":0,"a":0,"t":0,"m":0}
   $ tdelay bound two.v --outputs=z 2>&1 | head -1
   error: unexpected value 'z' for '--outputs' found; no more were expected
   $ tdelay path two.v 00 11 --outputs 2>&1 | head -1

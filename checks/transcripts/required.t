@@ -237,8 +237,8 @@ is known, and where there is none.
   unit 1 ns
   defaulted 0
   each y none edges 5 required met slack none
-  $ tdelay worst hazard.v --each --required 4 --keep a=10 --keep a=01 --json | grep -o '\[\[.*'
-  [["--keep","a=10"],["--keep","a=01"]],"required":4},"unit":"1 ns","defaulted":0,"each":[["y","none","edges",5,"required","met","slack","none"]]}
+  $ tdelay worst hazard.v --each --required 4 --keep a=10 --keep a=01 --json | grep -o '"named.*'
+  "named":[{"option":"--keep","word":"a=10"},{"option":"--keep","word":"a=01"}],"required":4},"unit":"1 ns","defaulted":0,"each":[{"output":"y","none":true,"edges":5,"standing":"met","slack":{"none":true}}]}
 
 By bounds alone, those by edges too: met, or open at once. Inputs may be held, and flips counted.
 

@@ -22,7 +22,7 @@ Several outputs in one question: the certificate names them, in the order of the
   accepted 2
   output 0 1
   $ tdelay check three.v xy.cert --json
-  {"proved":true,"command":"check","file":"three.v","question":{"certificate":"xy.cert"},"accepted":2,"output":[[0,1]]}
+  {"proved":true,"command":"check","file":"three.v","question":{"certificate":"xy.cert"},"accepted":{"exact":2},"output":[{"index":0},{"index":1}]}
 
 An option that says what the text tells changes nothing, one that says something else is a verdict.
 

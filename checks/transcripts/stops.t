@@ -11,7 +11,7 @@ What ends a search before it is done: a file, by `--stop`, and the clock, by `--
   nodes 0
   [3]
   $ tdelay worst $NETLISTS/adder_8.v --stop there --json
-  {"proved":true,"command":"worst","file":"$NETLISTS/adder_8.v","question":{"default":[1,1],"output":[],"named":[]},"unit":"1 ns","defaulted":0,"between":[10,45],"cause":"stop","from":"00000000000000000","to":"11111111111111111","nodes":0,"units":0}
+  {"proved":true,"command":"worst","file":"$NETLISTS/adder_8.v","question":{"default":{"rise":1,"fall":1},"output":[],"named":[]},"unit":"1 ns","defaulted":0,"between":[10,45],"cause":"stop","from":"00000000000000000","to":"11111111111111111","nodes":0,"units":0}
   [3]
   $ tdelay worst $NETLISTS/adder_8.v --stop there --hints
   unit 1 ns
@@ -285,7 +285,7 @@ parity gate of more than 12 inputs. The default goes on with a tree, of some 200
   nodes 0
   [3]
   $ tdelay worst wide.v --strategy refute --json
-  {"proved":true,"command":"worst","file":"wide.v","question":{"default":[1,1],"output":[],"named":[]},"unit":"1 ns","defaulted":0,"between":[0,11],"cause":"effort","from":"00000000000000","to":"11111111111111","nodes":0,"units":0}
+  {"proved":true,"command":"worst","file":"wide.v","question":{"default":{"rise":1,"fall":1},"output":[],"named":[]},"unit":"1 ns","defaulted":0,"between":[0,11],"cause":"effort","from":"00000000000000","to":"11111111111111","nodes":0,"units":0}
   [3]
   $ tdelay worst wide.v --strategy refute --hints 2>&1 > said
   the search has nothing more to try; both figures are true

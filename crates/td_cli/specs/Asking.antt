@@ -10,8 +10,8 @@ use Rattle.td_reading.specs.declared.reading.Reading.{Reading}
 use Rattle.td_reading.specs.declared.told.Told.{Told}
 use Rattle.td_checker.specs.Checks.{told_all}
 use Rattle.td_lines.specs.Asked.{Question}
-use Rattle.td_lines.specs.Said.{Entry}
-use Rattle.td_lines.specs.Values.{items_by, numbers_of}
+use Rattle.td_lines.specs.Said.{Entry, option_value}
+use Rattle.td_lines.specs.Values.{delays_value, items_by}
 use Rattle.td_request.specs.declared.question.Inputs.{Inputs}
 use Rattle.td_request.specs.declared.question.Question.{Question as SearchQuestion}
 use Rattle.td_request.specs.declared.request.Command.{Command}
@@ -47,7 +47,7 @@ strings words = array (items_by string words)
 -- the delays of gates that state none, where they are told
 abbrev pub default_entry : Bool → Delay → List Entry
 default_entry false delay = []
-default_entry true delay = (codes "default", numbers_of delay.rise delay.fall) ∷ []
+default_entry true delay = (codes "default", delays_value delay.rise delay.fall) ∷ []
 
 -- the outputs that are asked about, where they are told: all, where none is named
 abbrev pub output_entry : Bool → List (List ℕ) → List Entry
@@ -69,12 +69,12 @@ told_of (command.Check asked) = asked.told
 told_of command.Info = told_all
 
 -- an option and its word
-abbrev pub taken_words : Taken → List (List ℕ)
-taken_words taken = option_of taken.topic ∷ taken.text.now ∷ []
+abbrev pub taken_words : Taken → List ℕ × List ℕ
+taken_words taken = (option_of taken.topic, taken.text.now)
 
 -- the options by name, in order
 abbrev pub named_entry : List Taken → List Entry
-named_entry named = (codes "named", array (items_by strings (map taken_words named))) ∷ []
+named_entry named = (codes "named", array (items_by option_value (map taken_words named))) ∷ []
 
 -- what is said of the inputs, by place and by name
 abbrev pub inputs_entries : Inputs → List Entry

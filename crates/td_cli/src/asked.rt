@@ -10,7 +10,7 @@ use std::alloc::{AllocError, Global};
 use std::str;
 use td_gates::Delay;
 use td_inputs::Taken;
-use td_lines::{Asked, Label, Part, Said, Terms};
+use td_lines::{Asked, Label, Named, Said, Terms};
 use td_reading::{Outputs, Reading, Told};
 use td_request::{Bound, Command, Inputs, Question, Request};
 
@@ -77,7 +77,10 @@ fn say_default(terms: &mut Terms, is_told: bool, default: Delay) -> Result<(), A
     if !is_told {
         return Ok(());
     }
-    let delays = Said::Numbers(u64::from(default.rise), u64::from(default.fall));
+    let delays = Said::Delays {
+        rise: u64::from(default.rise),
+        fall: u64::from(default.fall),
+    };
     terms.add("default", delays)
 }
 
@@ -135,17 +138,17 @@ fn told_of(command: &Command<'_>) -> Told
 }
 
 /// An option by name, and its word.
-fn option(alloc: Global, taken: Taken<'_>) -> Result<Part, AllocError>
-    ensures { IfOk result (λ part. part.words.items ≡ taken_words taken.entry) }
+fn option(alloc: Global, taken: Taken<'_>) -> Result<Named, AllocError>
+    ensures { IfOk result (λ named. (named.option, named.word) ≡ taken_words taken.entry) }
 {
-    let mut words = Vec::new(alloc);
-    words.push(label(alloc, taken.topic.option())?)?;
-    words.push(label_of(alloc, taken.text)?)?;
-    Ok(Part { words })
+    Ok(Named {
+        option: label(alloc, taken.topic.option())?,
+        word: label_of(alloc, taken.text)?,
+    })
 }
 
-fn options(alloc: Global, named: &[Taken<'_>]) -> Result<Vec<Part>, AllocError>
-    ensures { IfOk result (λ parts. map (λ part. part.words.items) parts.items ≡ map taken_words named.now) }
+fn options(alloc: Global, named: &[Taken<'_>]) -> Result<Vec<Named>, AllocError>
+    ensures { IfOk result (λ options. map (λ named. (named.option, named.word)) options.items ≡ map taken_words named.now) }
 {
     let mut options = Vec::new(alloc);
     for taken in named {

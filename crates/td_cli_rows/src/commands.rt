@@ -51,8 +51,8 @@ fn prints_in_its_form(rt: HostRuntime) -> Result<(), Fail> {
     );
     let json = run_of(&rt, &["tdelay", "sim", "inverter.v", "0", "1", "--json"])?;
     let wanted = b"{\"proved\":true,\"command\":\"sim\",\"file\":\"inverter.v\",\
-\"question\":{\"default\":[1,1],\"output\":[],\"from\":\"0\",\"to\":\"1\",\"named\":[]},\
-\"unit\":\"1 ns\",\"defaulted\":0,\"last\":[[\"y\",3]],\"time\":3}\n";
+\"question\":{\"default\":{\"rise\":1,\"fall\":1},\"output\":[],\"from\":\"0\",\"to\":\"1\",\"named\":[]},\
+\"unit\":\"1 ns\",\"defaulted\":0,\"last\":[{\"output\":\"y\",\"time\":3}],\"time\":3}\n";
     assert_eq!(rt; json.out.bytes(), wanted.as_slice());
     let quiet = run_of(&rt, &["tdelay", "sim", "inverter.v", "0", "1", "-q"])?;
     assert_eq!(rt; quiet.code, 0);
@@ -66,7 +66,7 @@ fn prints_an_error_as_json(rt: HostRuntime) -> Result<(), Fail> {
     let refused = run_of(&rt, &["tdelay", "sim", "inverter.v", "00", "1", "--json"])?;
     assert_eq!(rt; refused.code, 2);
     let front = b"{\"proved\":true,\"command\":\"sim\",\"file\":\"inverter.v\",\
-\"question\":{\"default\":[1,1],\"output\":[],\"from\":\"00\",\"to\":\"1\",\"named\":[]},\
+\"question\":{\"default\":{\"rise\":1,\"fall\":1},\"output\":[],\"from\":\"00\",\"to\":\"1\",\"named\":[]},\
 \"error\":{\"kind\":\"command\",\"message\":\"bad vector FROM\",\"hint\":\"";
     assert!(rt; refused.out.bytes().starts_with(front));
     assert!(rt; refused.out.bytes().ends_with(b"\"},\"status\":2}\n"));

@@ -6,8 +6,8 @@ use std::test::*;
 use td_gates::{Kind, Level};
 use td_lines::{
     Asked, Cause, Change, Changes, Driver, Figure, Found, Hazard, HazardRow, Label, Last, Line,
-    Moments, Part, Place, Report, Requirement, Row, Said, Span, Standing, Terms, Text, Vector,
-    Vectors, print_error, print_json, print_text,
+    Moments, Named, Part, Place, Report, Requirement, Row, Said, Span, Standing, Terms, Text,
+    Vector, Vectors, print_error, print_json, print_text,
 };
 use td_nets::{Scale, Unit};
 
@@ -306,23 +306,24 @@ fn told(alloc: Global) -> Result<Report, AllocError> {
 
 /// How each object begins.
 const HEAD: &str = "{\"proved\":true,\"command\":\"bound\",\"file\":\"c\\\"17.v\",\
-\"question\":{\"default\":[1,2],\"output\":[\"y\",\"z\"],\"first\":\"0.\",\"flips\":1,\
-\"named\":[[\"--pin\",\"a=0\"]]},";
+\"question\":{\"default\":{\"rise\":1,\"fall\":2},\"output\":[\"y\",\"z\"],\"first\":\"0.\",\"flips\":1,\
+\"named\":[{\"option\":\"--pin\",\"word\":\"a=0\"}]},";
 
 /// What was asked.
 fn asked(alloc: Global) -> Result<Asked, AllocError> {
     let mut outputs = Vec::new(alloc);
     outputs.push(label(alloc, "y")?)?;
     outputs.push(label(alloc, "z")?)?;
-    let mut words = Vec::new(alloc);
-    words.push(label(alloc, "--pin")?)?;
-    words.push(label(alloc, "a=0")?)?;
+    let named = Named {
+        option: label(alloc, "--pin")?,
+        word: label(alloc, "a=0")?,
+    };
     let mut question = Terms::new(alloc);
-    question.add("default", Said::Numbers(1, 2))?;
+    question.add("default", Said::Delays { rise: 1, fall: 2 })?;
     question.add("output", Said::Words(outputs))?;
     question.add("first", Said::Word(label(alloc, "0.")?))?;
     question.add("flips", Said::Number(1))?;
-    question.add("named", Said::Options(one(alloc, Part { words })?))?;
+    question.add("named", Said::Options(one(alloc, named)?))?;
     Ok(Asked {
         command: "bound",
         file: label(alloc, "c\"17.v")?,
@@ -357,7 +358,8 @@ fn prints_a_netlist(rt: HostRuntime) -> Result<(), Fail> {
         "module t\nunit 10 ps\ninputs 1\noutputs 1\ngates 2\ndefaulted 0\ndepth 2\ndelay 2 3\n\
 delay none\ninput 0 \\a+ [1]\noutput 0 y\n",
         "\"module\":\"t\",\"unit\":\"10 ps\",\"inputs\":1,\"outputs\":1,\"gates\":2,\"defaulted\":0,\
-\"depth\":2,\"delay\":[2,3],\"delay\":null,\"input\":[[0,\"\\\\a+ [1]\"]],\"output\":[[0,\"y\"]]}\n",
+\"depth\":2,\"delay\":{\"least\":2,\"greatest\":3},\"delay\":null,\
+\"input\":[{\"index\":0,\"name\":\"\\\\a+ [1]\"}],\"output\":[{\"index\":0,\"name\":\"y\"}]}\n",
     )
 }
 
@@ -370,8 +372,9 @@ fn prints_a_run(rt: HostRuntime) -> Result<(), Fail> {
         &report,
         "last y 5\nlast z never\ntime 5\noutput y\nchange 0 a 0 x input\nchange 5 y x 1 xnor 5\n\
 a 7\nt none\n",
-        "\"last\":[[\"y\",5],[\"z\",null]],\"time\":5,\"output\":[\"y\"],\
-\"change\":[[0,\"a\",\"0\",\"x\",\"input\"],[5,\"y\",\"x\",\"1\",\"xnor\",5]],\"a\":7,\"t\":null}\n",
+        "\"last\":[{\"output\":\"y\",\"time\":5},{\"output\":\"z\",\"time\":null}],\"time\":5,\"output\":[{\"name\":\"y\"}],\
+\"change\":[{\"time\":0,\"net\":\"a\",\"old\":\"0\",\"new\":\"x\",\"by\":\"input\"},\
+{\"time\":5,\"net\":\"y\",\"old\":\"x\",\"new\":\"1\",\"by\":\"xnor\",\"delay\":5}],\"a\":7,\"t\":null}\n",
     )
 }
 
@@ -390,13 +393,17 @@ each u none edges none rise none fall none..4 glitch 0..4\n\
 hazard y 0 can 01 11\nhazard y 1 never\nhazard z 0 none\nhazard z 1 open\n--first 0.\n",
         "\"exact\":5,\"between\":[2,5],\"between\":[null,7],\"none\":true,\"cause\":\"budget\",\"from\":\"01\",\
 \"to\":\"none\",\"nodes\":9,\
-\"each\":[[\"y\",\"exact\",5,\"edges\",7,\"from\",\"01\",\"to\",\"none\"],[\"exact\",\"between\",2,5,\"edges\",null],\
-[\"z\",\"between\",null,5,\"edges\",5],[\"w\",\"none\",\"edges\",3],\
-[\"v\",\"exact\",5,\"edges\",5,\"from\",\"1\",\"to\",\"0\",\"rise\",5,\"fall\",[2,4],\"glitch\",null],\
-[\"u\",\"none\",\"edges\",null,\"rise\",\"none\",\"fall\",[null,4],\"glitch\",[0,4]]],\
-\"hazard\":[[\"y\",\"0\",\"can\",\"01\",\"11\"],[\"y\",\"1\",\"never\"],[\"z\",\"0\",\"none\"],\
-[\"z\",\"1\",\"open\"]],\
-\"parts\":[[\"--first\",\"0.\"]]}\n",
+\"each\":[{\"output\":\"y\",\"exact\":5,\"edges\":7,\"from\":\"01\",\"to\":\"none\"},\
+{\"output\":\"exact\",\"between\":[2,5],\"edges\":null},\
+{\"output\":\"z\",\"between\":[null,5],\"edges\":5},{\"output\":\"w\",\"none\":true,\"edges\":3},\
+{\"output\":\"v\",\"exact\":5,\"edges\":5,\"from\":\"1\",\"to\":\"0\",\
+\"rise\":{\"exact\":5},\"fall\":{\"between\":[2,4]},\"glitch\":{\"exact\":0}},\
+{\"output\":\"u\",\"none\":true,\"edges\":null,\
+\"rise\":{\"none\":true},\"fall\":{\"between\":[null,4]},\"glitch\":{\"between\":[0,4]}}],\
+\"hazard\":[{\"output\":\"y\",\"level\":\"0\",\"answer\":\"can\",\"from\":\"01\",\"to\":\"11\"},\
+{\"output\":\"y\",\"level\":\"1\",\"answer\":\"never\"},{\"output\":\"z\",\"level\":\"0\",\"answer\":\"none\"},\
+{\"output\":\"z\",\"level\":\"1\",\"answer\":\"open\"}],\
+\"parts\":[{\"options\":[\"--first\",\"0.\"]}]}\n",
     )
 }
 
@@ -414,12 +421,13 @@ each x between none 5 edges 5 required open slack -1..none\n\
 each y none edges 5 required met slack none\n\
 each z exact 1 edges 5 rise 1 fall none glitch never required met slack 3\n",
         "\
-\"each\":[[\"u\",\"exact\",4,\"edges\",5,\"required\",\"met\",\"slack\",0],\
-[\"v\",\"exact\",5,\"edges\",5,\"required\",\"violated\",\"slack\",-1],\
-[\"w\",\"between\",2,5,\"edges\",5,\"required\",\"open\",\"slack\",[-1,2]],\
-[\"x\",\"between\",null,5,\"edges\",5,\"required\",\"open\",\"slack\",[-1,null]],\
-[\"y\",\"none\",\"edges\",5,\"required\",\"met\",\"slack\",\"none\"],\
-[\"z\",\"exact\",1,\"edges\",5,\"rise\",1,\"fall\",\"none\",\"glitch\",null,\"required\",\"met\",\"slack\",3]]}\n",
+\"each\":[{\"output\":\"u\",\"exact\":4,\"edges\":5,\"standing\":\"met\",\"slack\":{\"exact\":0}},\
+{\"output\":\"v\",\"exact\":5,\"edges\":5,\"standing\":\"violated\",\"slack\":{\"exact\":-1}},\
+{\"output\":\"w\",\"between\":[2,5],\"edges\":5,\"standing\":\"open\",\"slack\":{\"between\":[-1,2]}},\
+{\"output\":\"x\",\"between\":[null,5],\"edges\":5,\"standing\":\"open\",\"slack\":{\"between\":[-1,null]}},\
+{\"output\":\"y\",\"none\":true,\"edges\":5,\"standing\":\"met\",\"slack\":{\"none\":true}},\
+{\"output\":\"z\",\"exact\":1,\"edges\":5,\"rise\":{\"exact\":1},\"fall\":{\"none\":true},\"glitch\":{\"exact\":0},\
+\"standing\":\"met\",\"slack\":{\"exact\":3}}]}\n",
     )
 }
 
@@ -432,8 +440,9 @@ fn prints_a_verdict(rt: HostRuntime) -> Result<(), Fail> {
         &report,
         "accepted 5\nfirst 0.\nsecond ..\nhold =.\nflips 1\nat 0 7\nat none\n\
 refused 7 OtherCircuit\nrefused 3 LeafBound line 12\n",
-        "\"accepted\":5,\"first\":\"0.\",\"second\":\"..\",\"hold\":\"=.\",\"flips\":1,\"at\":[0,7],\"at\":null,\
-\"refused\":[7,\"OtherCircuit\"],\"refused\":[3,\"LeafBound\",\"line\",12]}\n",
+        "\"accepted\":{\"exact\":5},\"first\":\"0.\",\"second\":\"..\",\"hold\":\"=.\",\"flips\":1,\"at\":[0,7],\"at\":[],\
+\"refused\":{\"number\":7,\"verdict\":\"OtherCircuit\"},\
+\"refused\":{\"number\":3,\"verdict\":\"LeafBound\",\"line\":12}}\n",
     )
 }
 
@@ -446,9 +455,10 @@ fn prints_what_is_told(rt: HostRuntime) -> Result<(), Fail> {
         &report,
         "accepted between 2 5\naccepted none\nunchecked 3\nunchecked between 3 7\nunchecked none\ndefault 1 3\noutput all\n\
 output 4\nkeep 2 01 5 ==\n",
-        "\"accepted\":[2,5],\"accepted\":\"none\",\"unchecked\":3,\"unchecked\":[3,7],\"unchecked\":\"none\",\
-\"default\":\"1 3\",\"output\":[\"all\"],\
-\"output\":[[4]],\
+        "\"accepted\":{\"between\":[2,5]},\"accepted\":{\"none\":true},\"unchecked\":{\"exact\":3},\
+\"unchecked\":{\"between\":[3,7]},\"unchecked\":{\"none\":true},\
+\"default\":{\"rise\":1,\"fall\":3},\"output\":[],\
+\"output\":[{\"index\":4}],\
 \"keep\":\"2 01 5 ==\"}\n",
     )
 }

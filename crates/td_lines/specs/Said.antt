@@ -1,19 +1,27 @@
 -- Members of an object of JSON: keys and values.
-use Rattle.std.specs.Prelude.{ℕ, List, [], ◌∷◌, map, decimal}
-use Rattle.json.specs.Json.{Json, number, string, array, Members, no_members, member}
+use Rattle.std.specs.Prelude.{ℕ, List, [], ◌∷◌, map, codes, decimal}
+use Rattle.json.specs.Json.{Json, number, string, array, object, Members, no_members, member}
 use Rattle.json.specs.Token.{Token}
+use Rattle.td_lines.specs.declared.terms.Named.{Named}
 use Rattle.td_lines.specs.declared.terms.Said.{Said}
 use Rattle.td_lines.specs.declared.terms.Said.TheVariants as said
 use Rattle.td_lines.specs.declared.terms.Term.{Term}
 use Rattle.td_lines.specs.declared.terms.Terms.{Terms}
-use Rattle.td_lines.specs.Values.{items_by, member_tokens, numbers_of, part_value}
+use Rattle.td_lines.specs.Values.{items_by, member_tokens, delays_value}
+
+-- an option and its word
+abbrev pub option_value : List ℕ × List ℕ → Json
+option_value option = object (member (codes "option") (string option.0) (member (codes "word") (string option.1) no_members))
+
+abbrev pub named_value : Named → Json
+named_value row = option_value (row.option, row.word)
 
 abbrev pub said_value : Said → Json
 said_value (said.Word text) = string text
 said_value (said.Number count) = number (decimal count)
-said_value (said.Numbers first second) = numbers_of first second
+said_value (said.Delays rise fall) = delays_value rise fall
 said_value (said.Words words) = array (items_by string words.items)
-said_value (said.Options options) = array (items_by part_value options.items)
+said_value (said.Options options) = array (items_by named_value options.items)
 
 -- a key and its value
 abbrev pub Entry : Type 0

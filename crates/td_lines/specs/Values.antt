@@ -1,7 +1,7 @@
 -- The JSON of a report: an object with a member for each line.
 use Rattle.std.specs.Prelude.{◌≡◌, ℕ, true, List, [], ◌∷◌, ◌++◌, codes, decimal, Option, Some, None}
 use Rattle.std.specs.List.{flat_map}
-use Rattle.json.specs.Json.{Json, null, boolean, number, string, array, Items, no_items, item, Members, no_members, member}
+use Rattle.json.specs.Json.{Json, null, boolean, number, string, array, object, Items, no_items, item, Members, no_members, member}
 use Rattle.json.specs.Token.{Token}
 use Rattle.json.specs.Token as token
 use Rattle.json.specs.Tree.{json_tokens}
@@ -28,7 +28,7 @@ use Rattle.td_lines.specs.declared.line.Hazard.TheVariants as hazard
 use Rattle.td_lines.specs.declared.line.HazardRow.{HazardRow}
 use Rattle.td_lines.specs.declared.line.Line.{Line}
 use Rattle.td_lines.specs.declared.line.Line.TheVariants as line
-use Rattle.td_lines.specs.Texts.{bit, bits, late, figure_key, level_text, kind_text, slack_text, standing_text}
+use Rattle.td_lines.specs.Texts.{bit, bits, figure_key, level_text, kind_text, slack_text, standing_text}
 
 -- these tokens were added, and what stood before them stays
 pub record Adds (old new : Written) (tokens : List Token) : Type 0 where
@@ -58,9 +58,9 @@ cause_text cause.Effort = codes "effort"
 cause_text cause.Stop = codes "stop"
 cause_text cause.Required = codes "required"
 
--- a required moment, and whether it is met
-abbrev pub required_value : ℕ → Standing → Json
-required_value moment standing = array (item (number (decimal moment)) (item (string (standing_text standing)) no_items))
+-- an object of one member
+abbrev pub sole : List ℕ → Json → Json
+sole key value = object (member key value no_members)
 
 abbrev pub moment_of : Option ℕ → Json
 moment_of None = null
@@ -73,118 +73,144 @@ numbers_of low high = array (item (number (decimal low)) (item (number (decimal 
 abbrev pub none_to : ℕ → Json
 none_to high = array (item null (item (number (decimal high)) no_items))
 
+-- a required moment, and whether it is met
+abbrev pub required_value : ℕ → Standing → Json
+required_value moment standing =
+    object (member (codes "time") (number (decimal moment)) (member (codes "standing") (string (standing_text standing)) no_members))
+
 abbrev pub span_value : Option Span → Json
 span_value None = null
-span_value (Some span) = numbers_of span.least span.greatest
+span_value (Some span) =
+    object (member (codes "least") (number (decimal span.least)) (member (codes "greatest") (number (decimal span.greatest)) no_members))
 
 abbrev pub place_value : Place → Json
-place_value row = array (item (number (decimal row.place)) (item (string row.net) no_items))
+place_value row =
+    object (member (codes "index") (number (decimal row.place)) (member (codes "name") (string row.net) no_members))
 
 abbrev pub last_value : Last → Json
-last_value row = array (item (string row.output) (item (moment_of row.moment) no_items))
+last_value row = object (member (codes "output") (string row.output) (member (codes "time") (moment_of row.moment) no_members))
 
 -- what makes a net change, and the gate's delay
-abbrev pub driven_value : Option Driver → Items
-driven_value None = item (string (codes "input")) no_items
-driven_value (Some driver) = item (string (kind_text driver.kind)) (item (number (decimal driver.delay)) no_items)
+abbrev pub driven_value : Option Driver → Members
+driven_value None = member (codes "by") (string (codes "input")) no_members
+driven_value (Some driver) =
+    member (codes "by") (string (kind_text driver.kind)) (member (codes "delay") (number (decimal driver.delay)) no_members)
+
+-- the level after a change, and what makes it
+abbrev pub new_value : Change → Members
+new_value row = member (codes "new") (string (level_text row.to)) (driven_value row.by)
 
 abbrev pub change_value : Change → Json
 change_value row =
-    array (item (number (decimal row.moment)) (item (string row.net) (item (string (level_text row.from)) (item (string (level_text row.to)) (driven_value row.by)))))
+    object (member (codes "time") (number (decimal row.moment)) (member (codes "net") (string row.net)
+    (member (codes "old") (string (level_text row.from)) (new_value row))))
 
--- a moment, or null where it is 0; two figures where it is open
-abbrev pub column_value : Found → Json
-column_value (found.Exact time) = moment_of (late time)
-column_value (found.Between low high) = numbers_of low high
-column_value (found.AtMost high) = none_to high
-column_value found.NoPair = string (codes "none")
+-- what is found of a delay: the key says how far it is known
+abbrev pub found_key : Found → List ℕ
+found_key (found.Exact time) = codes "exact"
+found_key (found.Between low high) = codes "between"
+found_key (found.AtMost high) = codes "between"
+found_key found.NoPair = codes "none"
 
--- what is found by the levels, and the items after it
-abbrev pub glitch_value : Changes → Items → Items
-glitch_value changes others = item (string (codes "glitch")) (item (column_value changes.glitch) others)
+abbrev pub found_value : Found → Json
+found_value (found.Exact time) = number (decimal time)
+found_value (found.Between low high) = numbers_of low high
+found_value (found.AtMost high) = none_to high
+found_value found.NoPair = boolean true
 
-abbrev pub fall_value : Changes → Items → Items
-fall_value changes others = item (string (codes "fall")) (item (column_value changes.fall) (glitch_value changes others))
+-- the same, as an object of its own
+abbrev pub found_object : Found → Json
+found_object found = sole (found_key found) (found_value found)
+
+-- what is found by the levels, and the members after it
+abbrev pub glitch_value : Changes → Members → Members
+glitch_value changes others = member (codes "glitch") (found_object changes.glitch) others
+
+abbrev pub fall_value : Changes → Members → Members
+fall_value changes others = member (codes "fall") (found_object changes.fall) (glitch_value changes others)
 
 -- the same, where that is asked for
-abbrev pub changes_value : Option Changes → Items → Items
+abbrev pub changes_value : Option Changes → Members → Members
 changes_value None others = others
-changes_value (Some changes) others = item (string (codes "rise")) (item (column_value changes.rise) (fall_value changes others))
+changes_value (Some changes) others = member (codes "rise") (found_object changes.rise) (fall_value changes others)
 
 -- a required moment less a figure
 abbrev pub slack_value : ℕ → ℕ → Json
 slack_value moment figure = number (slack_text moment figure)
 
 -- that of the figure; of two figures both, the lower slack first; null in place of that of a figure
--- that isn't known, and a word where there is no pair
+-- that isn't known, and true where there is no pair
 abbrev pub slacks_value : ℕ → Found → Json
 slacks_value moment (found.Exact time) = slack_value moment time
 slacks_value moment (found.Between low high) = array (item (slack_value moment high) (item (slack_value moment low) no_items))
 slacks_value moment (found.AtMost high) = array (item (slack_value moment high) (item null no_items))
-slacks_value moment found.NoPair = string (codes "none")
+slacks_value moment found.NoPair = boolean true
+
+-- the slack under the key of what is found
+abbrev pub slack_object : ℕ → Found → Json
+slack_object moment found = sole (found_key found) (slacks_value moment found)
 
 -- how a required moment stands, and its slack, where one is required
-abbrev pub requirement_value : Option Requirement → Found → Items
-requirement_value None found = no_items
+abbrev pub requirement_value : Option Requirement → Found → Members
+requirement_value None found = no_members
 requirement_value (Some required) found =
-    item (string (codes "required")) (item (string (standing_text required.standing)) (item (string (codes "slack"))
-    (item (slacks_value required.moment found) no_items)))
+    member (codes "standing") (string (standing_text required.standing)) (member (codes "slack") (slack_object required.moment found) no_members)
 
--- a pair, where there is one, and the items after it
-abbrev pub pair_value : Option Vectors → Items → Items
+-- a pair, where there is one, and the members after it
+abbrev pub pair_value : Option Vectors → Members → Members
 pair_value None others = others
-pair_value (Some pair) others =
-    item (string (codes "from")) (item (string (bits pair.from)) (item (string (codes "to")) (item (string (bits pair.to)) others)))
+pair_value (Some pair) others = member (codes "from") (string (bits pair.from)) (member (codes "to") (string (bits pair.to)) others)
 
 -- the bound by edges of a row, its pair, what is found by the levels, and how a required moment stands
-abbrev pub edges_value : Row → Items
+abbrev pub edges_value : Row → Members
 edges_value row =
-    item (string (codes "edges")) (item (moment_of row.edges)
-    (pair_value row.pair (changes_value row.changes (requirement_value row.required row.found))))
-
-abbrev pub found_value : Found → Row → Items
-found_value (found.Exact time) row = item (string (codes "exact")) (item (number (decimal time)) (edges_value row))
-found_value (found.Between low high) row =
-    item (string (codes "between")) (item (number (decimal low)) (item (number (decimal high)) (edges_value row)))
-found_value (found.AtMost high) row = item (string (codes "between")) (item null (item (number (decimal high)) (edges_value row)))
-found_value found.NoPair row = item (string (codes "none")) (edges_value row)
+    member (codes "edges") (moment_of row.edges)
+    (pair_value row.pair (changes_value row.changes (requirement_value row.required row.found)))
 
 abbrev pub row_value : Row → Json
-row_value row = array (item (string row.output) (found_value row.found row))
+row_value row = object (member (codes "output") (string row.output) (member (found_key row.found) (found_value row.found) (edges_value row)))
 
 -- a pair of vectors, or why there is none
-abbrev pub hazard_value : Hazard → Items
-hazard_value (hazard.Can from to) = item (string (codes "can")) (item (string (bits from)) (item (string (bits to)) no_items))
-hazard_value hazard.Never = item (string (codes "never")) no_items
-hazard_value hazard.NoPair = item (string (codes "none")) no_items
-hazard_value hazard.Open = item (string (codes "open")) no_items
+abbrev pub hazard_value : Hazard → Members
+hazard_value (hazard.Can from to) =
+    member (codes "answer") (string (codes "can")) (member (codes "from") (string (bits from)) (member (codes "to") (string (bits to)) no_members))
+hazard_value hazard.Never = member (codes "answer") (string (codes "never")) no_members
+hazard_value hazard.NoPair = member (codes "answer") (string (codes "none")) no_members
+hazard_value hazard.Open = member (codes "answer") (string (codes "open")) no_members
 
 abbrev pub hazard_row_value : HazardRow → Json
-hazard_row_value row = array (item (string row.output) (item (string (bit row.level ∷ [])) (hazard_value row.hazard)))
+hazard_row_value row =
+    object (member (codes "output") (string row.output) (member (codes "level") (string (bit row.level ∷ [])) (hazard_value row.hazard)))
 
 abbrev pub part_value : Part → Json
-part_value part = array (items_by string part.words.items)
+part_value part = sole (codes "options") (array (items_by string part.words.items))
 
 -- a name alone in an array
 abbrev pub named : List ℕ → Json
-named name = array (item (string name) no_items)
+named name = array (item (sole (codes "name") (string name)) no_items)
 
 abbrev pub at_value : List ℕ → Json
-at_value [] = null
-at_value (moment ∷ moments) = array (items_by count_value (moment ∷ moments))
+at_value moments = array (items_by count_value moments)
 
+-- the verdict that refuses a certificate, and its line
 abbrev pub refused_value : ℕ → List ℕ → Option ℕ → Json
-refused_value count name None = array (item (number (decimal count)) (item (string name) no_items))
+refused_value count name None = object (member (codes "number") (number (decimal count)) (member (codes "verdict") (string name) no_members))
 refused_value count name (Some line) =
-    array (item (number (decimal count)) (item (string name) (item (string (codes "line")) (item (number (decimal line)) no_items))))
+    object (member (codes "number") (number (decimal count)) (member (codes "verdict") (string name)
+    (member (codes "line") (number (decimal line)) no_members)))
 
-abbrev pub delays_text : ℕ → ℕ → List ℕ
-delays_text rise fall = decimal rise ++ codes " " ++ decimal fall
+-- the delays of gates that state none
+abbrev pub delays_value : ℕ → ℕ → Json
+delays_value rise fall = object (member (codes "rise") (number (decimal rise)) (member (codes "fall") (number (decimal fall)) no_members))
 
--- the number of an output, or that all are meant
+-- a number of an output
+abbrev pub index_value : ℕ → Json
+index_value place = sole (codes "index") (count_value place)
+
+-- the numbers of outputs; none where all are meant
 abbrev pub output_value : Option (List ℕ) → Json
-output_value None = named (codes "all")
-output_value (Some numbers) = array (item (at_value numbers) no_items)
+output_value None = array no_items
+output_value (Some numbers) = array (items_by index_value numbers)
 
 abbrev pub key_of : Line → List ℕ
 key_of (line.Module name) = codes "module"
@@ -260,13 +286,13 @@ value_of (line.Required moment standing) = required_value moment standing
 value_of (line.Each rows) = array (items_by row_value rows.items)
 value_of (line.Hazards rows) = array (items_by hazard_row_value rows.items)
 value_of (line.Parts parts) = array (items_by part_value parts.items)
-value_of (line.Accepted time) = number (decimal time)
-value_of (line.AcceptedBetween time high) = numbers_of time high
-value_of line.AcceptedNone = string (codes "none")
-value_of (line.Unchecked time) = number (decimal time)
-value_of (line.UncheckedBetween time high) = numbers_of time high
-value_of line.UncheckedNone = string (codes "none")
-value_of (line.Default rise fall) = string (delays_text rise fall)
+value_of (line.Accepted time) = found_object (found.Exact time)
+value_of (line.AcceptedBetween time high) = found_object (found.Between time high)
+value_of line.AcceptedNone = found_object found.NoPair
+value_of (line.Unchecked time) = found_object (found.Exact time)
+value_of (line.UncheckedBetween time high) = found_object (found.Between time high)
+value_of line.UncheckedNone = found_object found.NoPair
+value_of (line.Default rise fall) = delays_value rise fall
 value_of (line.OutputNumbers numbers) = output_value numbers
 value_of (line.First pins) = string pins
 value_of (line.Second pins) = string pins

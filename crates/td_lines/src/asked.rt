@@ -5,12 +5,13 @@ ghost use Rattle.std.specs.Prelude.{◌≡◌, map, OnOk};
 ghost use Rattle.json.specs.Json.{object};
 ghost use Rattle.json.specs.Tree.{json_tokens, members_tokens};
 ghost use Rattle.td_lines.specs.Asked.{asked_tokens, question_of};
-ghost use Rattle.td_lines.specs.Said.{entries_of, entry_of, members_by, said_value, term_tokens};
+ghost use Rattle.td_lines.specs.Said.{entries_of, entry_of, members_by, named_value, said_value, term_tokens};
 ghost use Rattle.td_lines.specs.Values.{Adds, member_tokens};
 
+use crate::claims::delays;
 use crate::label::Label;
-use crate::members::{list, numbers, word};
-use crate::terms::{Said, Term, Terms};
+use crate::members::{Valued, list, word};
+use crate::terms::{Named, Said, Term, Terms};
 use json::Writer;
 use std::alloc::{AllocError, Global};
 
@@ -24,13 +25,24 @@ pub struct Asked {
     pub question: Terms,
 }
 
+impl Valued for Named {
+    ghost value = { named_value };
+
+    fn value(&self, _alloc: Global, writer: &mut Writer) -> Result<(), AllocError> {
+        writer.begin_object()?;
+        word(writer, "option", self.option.text())?;
+        word(writer, "word", self.word.text())?;
+        writer.end_object()
+    }
+}
+
 fn value_of(alloc: Global, writer: &mut Writer, said: &Said) -> Result<(), AllocError>
     ensures { OnOk result (Adds writer.old writer.new (json_tokens (said_value said.now))) }
 {
     match said {
         Said::Word(text) => writer.string(text.text()),
         Said::Number(count) => writer.u64(*count),
-        Said::Numbers(first, second) => numbers(writer, *first, *second),
+        Said::Delays { rise, fall } => delays(writer, *rise, *fall),
         Said::Words(words) => list(alloc, writer, words),
         Said::Options(options) => list(alloc, writer, options),
     }

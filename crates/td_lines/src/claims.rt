@@ -1,83 +1,109 @@
 //! Members that tell what a certificate is about, or why it is refused.
 
-ghost use Rattle.std.specs.Prelude.{◌≡◌, codes, decimal, string_bytes, None, Some, IfOk, OnOk};
-ghost use Rattle.json.specs.Json.{string};
-ghost use Rattle.json.specs.Tree.{json_tokens};
-ghost use Rattle.td_lines.specs.Values.{Adds, member_tokens, delays_text, output_value, refused_value};
+ghost use Rattle.std.specs.Prelude.{codes, None, Some, OnOk};
+ghost use Rattle.json.specs.Tree.{json_tokens, items_tokens};
+ghost use Rattle.td_lines.specs.Values.{Adds, items_by, rows_tokens, member_tokens, delays_value, index_value, output_value, refused_value};
 
-use crate::members::{moments_value, output, word};
+use crate::members::{count_of, word};
 use crate::moments::Moments;
 use json::Writer;
-use std::alloc::{AllocError, Global};
+use std::alloc::AllocError;
 
-fn delays_words(alloc: Global, rise: u64, fall: u64) -> Result<String, AllocError>
-    ensures { IfOk result (λ text. string_bytes text ≡ delays_text rise fall) }
+/// The delays of a rise and a fall.
+pub(crate) fn delays(writer: &mut Writer, rise: u64, fall: u64) -> Result<(), AllocError>
+    ensures { OnOk result (Adds writer.old writer.new (json_tokens (delays_value rise fall))) }
 {
-    let text = format!(in alloc; "{rise} {fall}")?;
-    Ok(text)
+    writer.begin_object()?;
+    count_of(writer, "rise", rise)?;
+    count_of(writer, "fall", fall)?;
+    writer.end_object()
 }
 
 /// The delays of gates that state none.
-pub(crate) fn default(
-    alloc: Global,
-    writer: &mut Writer,
-    rise: u64,
-    fall: u64,
-) -> Result<(), AllocError>
-    ensures { OnOk result (Adds writer.old writer.new (member_tokens (codes "default") (string (delays_text rise fall)))) }
+pub(crate) fn default(writer: &mut Writer, rise: u64, fall: u64) -> Result<(), AllocError>
+    ensures { OnOk result (Adds writer.old writer.new (member_tokens (codes "default") (delays_value rise fall))) }
 {
-    let words = delays_words(alloc, rise, fall)?;
-    word(writer, "default", &words)
+    writer.key("default")?;
+    delays(writer, rise, fall)
 }
 
-/// Numbers in an array of their own.
-fn row(alloc: Global, writer: &mut Writer, numbers: &[u64]) -> Result<(), AllocError>
-    ensures { OnOk result (Adds writer.old writer.new (json_tokens (output_value (Some numbers.now)))) }
+/// A number of an output.
+fn index(writer: &mut Writer, number: u64) -> Result<(), AllocError>
+    ensures { OnOk result (Adds writer.old writer.new (json_tokens (index_value number))) }
 {
-    writer.begin_array()?;
-    moments_value(alloc, writer, numbers)?;
+    writer.begin_object()?;
+    count_of(writer, "index", number)?;
+    writer.end_object()
+}
+
+fn indexes(writer: &mut Writer, numbers: &[u64]) -> Result<(), AllocError>
+    ensures { OnOk result (Adds writer.old writer.new (rows_tokens index_value numbers.now)) }
+{
+    for number in numbers {
+        index(writer, *number)?;
+    }
+    Ok(())
+}
+
+/// The numbers, and the end of their array.
+fn indexes_ended(writer: &mut Writer, numbers: &[u64]) -> Result<(), AllocError>
+    ensures { OnOk result (Adds writer.old writer.new (items_tokens (items_by index_value numbers.now))) }
+{
+    indexes(writer, numbers)?;
     writer.end_array()
 }
 
-fn numbered(alloc: Global, writer: &mut Writer, numbers: &Moments) -> Result<(), AllocError>
-    ensures { OnOk result (Adds writer.old writer.new (member_tokens (codes "output") (output_value (Some numbers.now)))) }
+fn numbered(writer: &mut Writer, numbers: &[u64]) -> Result<(), AllocError>
+    ensures { OnOk result (Adds writer.old writer.new (json_tokens (output_value (Some numbers.now)))) }
 {
-    writer.key("output")?;
-    row(alloc, writer, numbers.all())
+    writer.begin_array()?;
+    indexes_ended(writer, numbers)
 }
 
-/// The numbers of outputs, or that all are meant.
+fn without_numbers(writer: &mut Writer) -> Result<(), AllocError>
+    ensures { OnOk result (Adds writer.old writer.new (json_tokens (output_value None))) }
+{
+    writer.begin_array()?;
+    writer.end_array()
+}
+
+fn numbers_of(writer: &mut Writer, numbers: &Option<Moments>) -> Result<(), AllocError>
+    ensures { OnOk result (Adds writer.old writer.new (json_tokens (output_value numbers.now))) }
+{
+    match numbers {
+        None => without_numbers(writer),
+        Some(numbers) => numbered(writer, numbers.all()),
+    }
+}
+
+/// The numbers of outputs; none where all are meant.
 pub(crate) fn output_numbers(
-    alloc: Global,
     writer: &mut Writer,
     numbers: &Option<Moments>,
 ) -> Result<(), AllocError>
     ensures { OnOk result (Adds writer.old writer.new (member_tokens (codes "output") (output_value numbers.now))) }
 {
-    match numbers {
-        None => output(writer, "all"),
-        Some(numbers) => numbered(alloc, writer, numbers),
-    }
+    writer.key("output")?;
+    numbers_of(writer, numbers)
 }
 
 fn without_line(writer: &mut Writer, number: u8, name: &str) -> Result<(), AllocError>
     ensures { OnOk result (Adds writer.old writer.new (json_tokens (refused_value number name.now None))) }
 {
-    writer.begin_array()?;
-    writer.u64(u64::from(number))?;
-    writer.string(name)?;
-    writer.end_array()
+    writer.begin_object()?;
+    count_of(writer, "number", u64::from(number))?;
+    word(writer, "verdict", name)?;
+    writer.end_object()
 }
 
 fn with_line(writer: &mut Writer, number: u8, name: &str, line: u32) -> Result<(), AllocError>
     ensures { OnOk result (Adds writer.old writer.new (json_tokens (refused_value number name.now (Some line)))) }
 {
-    writer.begin_array()?;
-    writer.u64(u64::from(number))?;
-    writer.string(name)?;
-    writer.string("line")?;
-    writer.u64(u64::from(line))?;
-    writer.end_array()
+    writer.begin_object()?;
+    count_of(writer, "number", u64::from(number))?;
+    word(writer, "verdict", name)?;
+    count_of(writer, "line", u64::from(line))?;
+    writer.end_object()
 }
 
 fn verdict(writer: &mut Writer, number: u8, name: &str, line: Option<u32>) -> Result<(), AllocError>

@@ -1,14 +1,14 @@
 //! Rows of hazards, as text and as JSON.
 
 ghost use Rattle.std.specs.Prelude.{◌≡◌, ◌++◌, ◌∷◌, [], codes, OnOk};
-ghost use Rattle.json.specs.Json.{string, item, no_items};
-ghost use Rattle.json.specs.Tree.{items_tokens};
+ghost use Rattle.json.specs.Json.{string, member, no_members};
+ghost use Rattle.json.specs.Tree.{members_tokens};
 ghost use Rattle.td_lines.specs.declared.line.Hazard.TheVariants as HazardAs;
 ghost use Rattle.td_lines.specs.Texts.{bit, hazard_text, hazard_line};
 ghost use Rattle.td_lines.specs.Values.{Adds, hazard_value, hazard_row_value};
 
 use crate::line::{Hazard, HazardRow};
-use crate::members::{Valued, characters as characters_of};
+use crate::members::{Valued, vector, word};
 use crate::text::{Printed, characters};
 use crate::texts::Text;
 use crate::vector::Vector;
@@ -56,29 +56,27 @@ impl Printed for HazardRow {
 
 // ---- JSON
 
-/// What is said of a pair's vectors, and the end of the array.
+/// A pair's vectors, and the end of the object.
 fn can_of(alloc: Global, writer: &mut Writer, from: &Vector, to: &Vector) -> Result<(), AllocError>
-    ensures { OnOk result (Adds writer.old writer.new (items_tokens (hazard_value (HazardAs.Can from.now to.now)))) }
+    ensures { OnOk result (Adds writer.old writer.new (members_tokens (hazard_value (HazardAs.Can from.now to.now)))) }
 {
-    let from = characters_of(alloc, from.bits())?;
-    let to = characters_of(alloc, to.bits())?;
-    writer.string("can")?;
-    writer.string(&from)?;
-    writer.string(&to)?;
-    writer.end_array()
+    word(writer, "answer", "can")?;
+    vector(alloc, writer, "from", from)?;
+    vector(alloc, writer, "to", to)?;
+    writer.end_object()
 }
 
-/// A word, and the end of the array.
-fn last_word(writer: &mut Writer, word: &str) -> Result<(), AllocError>
-    ensures { OnOk result (Adds writer.old writer.new (items_tokens (item (string word.now) no_items))) }
+/// A word, and the end of the object.
+fn last_word(writer: &mut Writer, text: &str) -> Result<(), AllocError>
+    ensures { OnOk result (Adds writer.old writer.new (members_tokens (member (codes "answer") (string text.now) no_members))) }
 {
-    writer.string(word)?;
-    writer.end_array()
+    word(writer, "answer", text)?;
+    writer.end_object()
 }
 
-/// What is said of a hazard, and the end of the array.
+/// What is said of a hazard, and the end of the object.
 fn hazard_of(alloc: Global, writer: &mut Writer, hazard: &Hazard) -> Result<(), AllocError>
-    ensures { OnOk result (Adds writer.old writer.new (items_tokens (hazard_value hazard.now))) }
+    ensures { OnOk result (Adds writer.old writer.new (members_tokens (hazard_value hazard.now))) }
 {
     match hazard {
         Hazard::Can { from, to } => can_of(alloc, writer, from, to),
@@ -92,9 +90,9 @@ impl Valued for HazardRow {
     ghost value = { hazard_row_value };
 
     fn value(&self, alloc: Global, writer: &mut Writer) -> Result<(), AllocError> {
-        writer.begin_array()?;
-        writer.string(self.output.text())?;
-        writer.string(digit(self.level))?;
+        writer.begin_object()?;
+        word(writer, "output", self.output.text())?;
+        word(writer, "level", digit(self.level))?;
         hazard_of(alloc, writer, &self.hazard)
     }
 }

@@ -8,6 +8,7 @@
 
 mod asked;
 mod claims;
+mod figures;
 mod hazards;
 mod label;
 mod line;
@@ -32,7 +33,7 @@ pub use moments::Moments;
 pub use objects::{print_error, print_json};
 pub use report::Report;
 pub use rows::print_row;
-pub use terms::{Said, Terms};
+pub use terms::{Named, Said, Terms};
 pub use text::print_text;
 pub use texts::Text;
 pub use vector::Vector;

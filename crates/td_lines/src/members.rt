@@ -1,15 +1,17 @@
 //! The members of a report as JSON, one for each line.
 
-ghost use Rattle.std.specs.Prelude.{◌≡◌, ◌∷◌, [], true, map, codes, decimal, string_bytes, Some, None, IfOk, OnOk};
-ghost use Rattle.json.specs.Json.{boolean, number, string, array, Json};
+ghost use Rattle.std.specs.Prelude.{◌≡◌, ◌∷◌, [], map, codes, decimal, string_bytes, Some, None, IfOk, OnOk};
+ghost use Rattle.json.specs.Json.{number, string, array, Json};
 ghost use Rattle.json.specs.Tree.{json_tokens, items_tokens, members_tokens};
 ghost use Rattle.td_nets.specs.Scales.{scale_text};
+ghost use Rattle.td_lines.specs.declared.line.Found.TheVariants as FoundAs;
 ghost use Rattle.td_lines.specs.Texts.{bit, bits, level_text, kind_text};
-ghost use Rattle.td_lines.specs.Values.{Adds, items_by, rows_tokens, count_value, unit_text, cause_text, required_value, moment_of, numbers_of, span_value, place_value, last_value, driven_value, change_value, part_value, member_tokens, line_tokens, members_of, named, at_value, none_to};
+ghost use Rattle.td_lines.specs.Values.{Adds, items_by, rows_tokens, count_value, unit_text, cause_text, required_value, moment_of, numbers_of, none_to, span_value, place_value, last_value, driven_value, new_value, change_value, found_object, part_value, member_tokens, line_tokens, members_of, named, at_value};
 
 use crate::claims;
+use crate::figures::{at_most, figure, holds, two};
 use crate::label::Label;
-use crate::line::{Cause, Change, Driver, Last, Line, Part, Place, Span, Standing};
+use crate::line::{Cause, Change, Driver, Found, Last, Line, Part, Place, Span, Standing};
 use crate::moments::Moments;
 use crate::vector::Vector;
 use json::Writer;
@@ -107,8 +109,8 @@ fn member(alloc: Global, writer: &mut Writer, line: &Line) -> Result<(), AllocEr
         Line::Bound(figure, moment) => bound(writer, figure.key(), *moment),
         Line::Exact(time) => count_of(writer, "exact", *time),
         Line::Between { low, high } => two(writer, "between", *low, *high),
-        Line::AtMost(high) => at_most(writer, *high),
-        Line::NoPair => none(writer),
+        Line::AtMost(high) => at_most(writer, "between", *high),
+        Line::NoPair => holds(writer, "none"),
         Line::Cause(why) => cause(writer, *why),
         Line::From(bits) => vector(alloc, writer, "from", bits),
         Line::To(bits) => vector(alloc, writer, "to", bits),
@@ -118,14 +120,14 @@ fn member(alloc: Global, writer: &mut Writer, line: &Line) -> Result<(), AllocEr
         Line::Each(rows) => lists(alloc, writer, "each", rows),
         Line::Hazards(rows) => lists(alloc, writer, "hazard", rows),
         Line::Parts(rows) => lists(alloc, writer, "parts", rows),
-        Line::Accepted(time) => count_of(writer, "accepted", *time),
-        Line::AcceptedBetween { time, high } => two(writer, "accepted", *time, *high),
-        Line::AcceptedNone => word(writer, "accepted", "none"),
-        Line::Unchecked(time) => count_of(writer, "unchecked", *time),
-        Line::UncheckedBetween { time, high } => two(writer, "unchecked", *time, *high),
-        Line::UncheckedNone => word(writer, "unchecked", "none"),
-        Line::Default { rise, fall } => claims::default(alloc, writer, *rise, *fall),
-        Line::OutputNumbers(numbers) => claims::output_numbers(alloc, writer, numbers),
+        Line::Accepted(time) => figure(writer, "accepted", Found::Exact(*time)),
+        Line::AcceptedBetween { time, high } => between(writer, "accepted", *time, *high),
+        Line::AcceptedNone => figure(writer, "accepted", Found::NoPair),
+        Line::Unchecked(time) => figure(writer, "unchecked", Found::Exact(*time)),
+        Line::UncheckedBetween { time, high } => between(writer, "unchecked", *time, *high),
+        Line::UncheckedNone => figure(writer, "unchecked", Found::NoPair),
+        Line::Default { rise, fall } => claims::default(writer, *rise, *fall),
+        Line::OutputNumbers(numbers) => claims::output_numbers(writer, numbers),
         Line::First(pins) => word(writer, "first", pins.text()),
         Line::Second(pins) => word(writer, "second", pins.text()),
         Line::Hold(mask) => word(writer, "hold", mask.text()),
@@ -150,7 +152,7 @@ pub(crate) fn word(writer: &mut Writer, key: &str, text: &str) -> Result<(), All
     writer.string(text)
 }
 
-pub(crate) fn moment(writer: &mut Writer, moment: Option<u64>) -> Result<(), AllocError>
+fn moment(writer: &mut Writer, moment: Option<u64>) -> Result<(), AllocError>
     ensures { OnOk result (Adds writer.old writer.new (json_tokens (moment_of moment))) }
 {
     match moment {
@@ -159,7 +161,7 @@ pub(crate) fn moment(writer: &mut Writer, moment: Option<u64>) -> Result<(), All
     }
 }
 
-fn bound(writer: &mut Writer, key: &str, bound: Option<u64>) -> Result<(), AllocError>
+pub(crate) fn bound(writer: &mut Writer, key: &str, bound: Option<u64>) -> Result<(), AllocError>
     ensures { OnOk result (Adds writer.old writer.new (member_tokens key.now (moment_of bound))) }
 {
     writer.key(key)?;
@@ -175,13 +177,6 @@ pub(crate) fn numbers(writer: &mut Writer, low: u64, high: u64) -> Result<(), Al
     writer.end_array()
 }
 
-fn two(writer: &mut Writer, key: &str, low: u64, high: u64) -> Result<(), AllocError>
-    ensures { OnOk result (Adds writer.old writer.new (member_tokens key.now (numbers_of low high))) }
-{
-    writer.key(key)?;
-    numbers(writer, low, high)
-}
-
 /// No lower figure, and an upper one.
 pub(crate) fn below(writer: &mut Writer, high: u64) -> Result<(), AllocError>
     ensures { OnOk result (Adds writer.old writer.new (json_tokens (none_to high))) }
@@ -192,18 +187,20 @@ pub(crate) fn below(writer: &mut Writer, high: u64) -> Result<(), AllocError>
     writer.end_array()
 }
 
-fn at_most(writer: &mut Writer, high: u64) -> Result<(), AllocError>
-    ensures { OnOk result (Adds writer.old writer.new (member_tokens (codes "between") (none_to high))) }
+/// The object of two figures.
+fn between(writer: &mut Writer, key: &str, low: u64, high: u64) -> Result<(), AllocError>
+    ensures { OnOk result (Adds writer.old writer.new (member_tokens key.now (found_object (FoundAs.Between low high)))) }
 {
-    writer.key("between")?;
-    below(writer, high)
+    figure(writer, key, Found::Between { low, high })
 }
 
-fn none(writer: &mut Writer) -> Result<(), AllocError>
-    ensures { OnOk result (Adds writer.old writer.new (member_tokens (codes "none") (boolean true))) }
+fn spanned(writer: &mut Writer, delays: Span) -> Result<(), AllocError>
+    ensures { OnOk result (Adds writer.old writer.new (json_tokens (span_value (Some delays)))) }
 {
-    writer.key("none")?;
-    writer.boolean(true)
+    writer.begin_object()?;
+    count_of(writer, "least", delays.least)?;
+    count_of(writer, "greatest", delays.greatest)?;
+    writer.end_object()
 }
 
 /// The least and the greatest delay, or null.
@@ -212,7 +209,7 @@ fn span(writer: &mut Writer, delays: Option<Span>) -> Result<(), AllocError>
 {
     match delays {
         None => writer.null(),
-        Some(delays) => numbers(writer, delays.least, delays.greatest),
+        Some(delays) => spanned(writer, delays),
     }
 }
 
@@ -270,10 +267,10 @@ fn required(writer: &mut Writer, moment: u64, standing: Standing) -> Result<(), 
     ensures { OnOk result (Adds writer.old writer.new (member_tokens (codes "required") (required_value moment standing))) }
 {
     writer.key("required")?;
-    writer.begin_array()?;
-    writer.u64(moment)?;
-    writer.string(standing.word())?;
-    writer.end_array()
+    writer.begin_object()?;
+    count_of(writer, "time", moment)?;
+    word(writer, "standing", standing.word())?;
+    writer.end_object()
 }
 
 fn cause(writer: &mut Writer, why: Cause) -> Result<(), AllocError>
@@ -283,7 +280,7 @@ fn cause(writer: &mut Writer, why: Cause) -> Result<(), AllocError>
 }
 
 /// A character for each bit, or `none`.
-pub(crate) fn characters(alloc: Global, vector: &[bool]) -> Result<String, AllocError>
+fn characters(alloc: Global, vector: &[bool]) -> Result<String, AllocError>
     ensures { IfOk result (λ text. string_bytes text ≡ bits vector.now) }
 {
     if vector.is_empty() {
@@ -309,7 +306,12 @@ fn digits(alloc: Global, vector: &[bool]) -> Result<String, AllocError>
     Ok(text)
 }
 
-fn vector(alloc: Global, writer: &mut Writer, key: &str, vector: &Vector) -> Result<(), AllocError>
+pub(crate) fn vector(
+    alloc: Global,
+    writer: &mut Writer,
+    key: &str,
+    vector: &Vector,
+) -> Result<(), AllocError>
     ensures { OnOk result (Adds writer.old writer.new (member_tokens key.now (string (bits vector.now)))) }
 {
     let text = characters(alloc, vector.bits())?;
@@ -317,12 +319,14 @@ fn vector(alloc: Global, writer: &mut Writer, key: &str, vector: &Vector) -> Res
 }
 
 /// An output alone in an array.
-pub(crate) fn output(writer: &mut Writer, name: &str) -> Result<(), AllocError>
+fn output(writer: &mut Writer, name: &str) -> Result<(), AllocError>
     ensures { OnOk result (Adds writer.old writer.new (member_tokens (codes "output") (named name.now))) }
 {
     writer.key("output")?;
     writer.begin_array()?;
-    writer.string(name)?;
+    writer.begin_object()?;
+    word(writer, "name", name)?;
+    writer.end_object()?;
     writer.end_array()
 }
 
@@ -330,10 +334,10 @@ impl Valued for Place {
     ghost value = { place_value };
 
     fn value(&self, _alloc: Global, writer: &mut Writer) -> Result<(), AllocError> {
-        writer.begin_array()?;
-        writer.u64(self.place)?;
-        writer.string(self.net.text())?;
-        writer.end_array()
+        writer.begin_object()?;
+        count_of(writer, "index", self.place)?;
+        word(writer, "name", self.net.text())?;
+        writer.end_object()
     }
 }
 
@@ -341,10 +345,10 @@ impl Valued for Last {
     ghost value = { last_value };
 
     fn value(&self, _alloc: Global, writer: &mut Writer) -> Result<(), AllocError> {
-        writer.begin_array()?;
-        writer.string(self.output.text())?;
-        moment(writer, self.moment)?;
-        writer.end_array()
+        writer.begin_object()?;
+        word(writer, "output", self.output.text())?;
+        bound(writer, "time", self.moment)?;
+        writer.end_object()
     }
 }
 
@@ -368,7 +372,9 @@ impl Valued for Part {
     ghost value = { part_value };
 
     fn value(&self, alloc: Global, writer: &mut Writer) -> Result<(), AllocError> {
-        list(alloc, writer, &self.words)
+        writer.begin_object()?;
+        lists(alloc, writer, "options", &self.words)?;
+        writer.end_object()
     }
 }
 
@@ -397,9 +403,9 @@ fn kind(kind: Kind) -> &'static str
     }
 }
 
-/// What makes a net change, and the end of the array.
+/// What makes a net change, and the end of the object.
 fn driven(writer: &mut Writer, by: Option<Driver>) -> Result<(), AllocError>
-    ensures { OnOk result (Adds writer.old writer.new (items_tokens (driven_value by))) }
+    ensures { OnOk result (Adds writer.old writer.new (members_tokens (driven_value by))) }
 {
     match by {
         None => by_itself(writer),
@@ -408,50 +414,42 @@ fn driven(writer: &mut Writer, by: Option<Driver>) -> Result<(), AllocError>
 }
 
 fn by_itself(writer: &mut Writer) -> Result<(), AllocError>
-    ensures { OnOk result (Adds writer.old writer.new (items_tokens (driven_value None))) }
+    ensures { OnOk result (Adds writer.old writer.new (members_tokens (driven_value None))) }
 {
-    writer.string("input")?;
-    writer.end_array()
+    word(writer, "by", "input")?;
+    writer.end_object()
 }
 
 fn by_gate(writer: &mut Writer, by: Driver) -> Result<(), AllocError>
-    ensures { OnOk result (Adds writer.old writer.new (items_tokens (driven_value (Some by)))) }
+    ensures { OnOk result (Adds writer.old writer.new (members_tokens (driven_value (Some by)))) }
 {
-    writer.string(kind(by.kind))?;
-    writer.u64(by.delay)?;
-    writer.end_array()
+    word(writer, "by", kind(by.kind))?;
+    count_of(writer, "delay", by.delay)?;
+    writer.end_object()
+}
+
+/// The level after a change, what makes it, and the end of the object.
+fn new_level(writer: &mut Writer, row: &Change) -> Result<(), AllocError>
+    ensures { OnOk result (Adds writer.old writer.new (members_tokens (new_value row.now))) }
+{
+    word(writer, "new", level(row.to))?;
+    driven(writer, row.by)
 }
 
 impl Valued for Change {
     ghost value = { change_value };
 
     fn value(&self, _alloc: Global, writer: &mut Writer) -> Result<(), AllocError> {
-        writer.begin_array()?;
-        writer.u64(self.moment)?;
-        writer.string(self.net.text())?;
-        writer.string(level(self.from))?;
-        writer.string(level(self.to))?;
-        driven(writer, self.by)
+        writer.begin_object()?;
+        count_of(writer, "time", self.moment)?;
+        word(writer, "net", self.net.text())?;
+        word(writer, "old", level(self.from))?;
+        new_level(writer, self)
     }
-}
-
-/// The moments, or null where there are no inputs.
-pub(crate) fn moments_value(
-    alloc: Global,
-    writer: &mut Writer,
-    moments: &[u64],
-) -> Result<(), AllocError>
-    ensures { OnOk result (Adds writer.old writer.new (json_tokens (at_value moments.now))) }
-{
-    if moments.is_empty() {
-        return writer.null();
-    }
-    list(alloc, writer, moments)
 }
 
 fn at(alloc: Global, writer: &mut Writer, moments: &Moments) -> Result<(), AllocError>
     ensures { OnOk result (Adds writer.old writer.new (member_tokens (codes "at") (at_value moments.now))) }
 {
-    writer.key("at")?;
-    moments_value(alloc, writer, moments.all())
+    lists(alloc, writer, "at", moments.all())
 }

@@ -1,13 +1,14 @@
 //! Rows of outputs: what is found of each, as text and as JSON.
 
-ghost use Rattle.std.specs.Prelude.{◌≡◌, ◌++◌, codes, Some, None, OnOk};
-ghost use Rattle.json.specs.Tree.{json_tokens, items_tokens};
+ghost use Rattle.std.specs.Prelude.{◌≡◌, ◌++◌, Some, OnOk};
+ghost use Rattle.json.specs.Tree.{members_tokens};
 ghost use Rattle.td_lines.specs.declared.line.Found.TheVariants as FoundAs;
 ghost use Rattle.td_lines.specs.Texts.{found_text, edges_text, pair_text, late, column_text, changes_text, requirement_text, figures_text, columns_text, row_line};
-ghost use Rattle.td_lines.specs.Values.{Adds, column_value, glitch_value, fall_value, changes_value, pair_value, edges_value, found_value, requirement_value, row_value};
+ghost use Rattle.td_lines.specs.Values.{Adds, glitch_value, fall_value, changes_value, pair_value, edges_value, requirement_value, row_value};
 
+use crate::figures::{figure, found as found_of};
 use crate::line::{Changes, Found, Row, Vectors};
-use crate::members::{Valued, below, characters as characters_of, moment as moment_value, numbers};
+use crate::members::{Valued, bound, vector, word};
 use crate::slacks::{requirement, requirement_of};
 use crate::text::{Printed, bound_moment, characters, moment};
 use crate::texts::Text;
@@ -141,17 +142,6 @@ pub fn print_row(out: &mut Text, row: &Row) -> Result<(), AllocError>
 
 // ---- JSON
 
-fn column_of(writer: &mut Writer, found: Found) -> Result<(), AllocError>
-    ensures { OnOk result (Adds writer.old writer.new (json_tokens (column_value found))) }
-{
-    match found {
-        Found::Exact(time) => moment_value(writer, late(time)),
-        Found::Between { low, high } => numbers(writer, low, high),
-        Found::AtMost(high) => below(writer, high),
-        Found::NoPair => writer.string("none"),
-    }
-}
-
 /// The column of glitches, and what follows it.
 fn glitch_of(
     alloc: Global,
@@ -159,10 +149,9 @@ fn glitch_of(
     changes: &Changes,
     row: &Row,
 ) -> Result<(), AllocError>
-    ensures { OnOk result (Adds writer.old writer.new (items_tokens (glitch_value changes.now (requirement_value row.now.required row.now.found)))) }
+    ensures { OnOk result (Adds writer.old writer.new (members_tokens (glitch_value changes.now (requirement_value row.now.required row.now.found)))) }
 {
-    writer.string("glitch")?;
-    column_of(writer, changes.glitch)?;
+    figure(writer, "glitch", changes.glitch)?;
     requirement_of(alloc, writer, row.required, row.found)
 }
 
@@ -173,10 +162,9 @@ fn fall_of(
     changes: &Changes,
     row: &Row,
 ) -> Result<(), AllocError>
-    ensures { OnOk result (Adds writer.old writer.new (items_tokens (fall_value changes.now (requirement_value row.now.required row.now.found)))) }
+    ensures { OnOk result (Adds writer.old writer.new (members_tokens (fall_value changes.now (requirement_value row.now.required row.now.found)))) }
 {
-    writer.string("fall")?;
-    column_of(writer, changes.fall)?;
+    figure(writer, "fall", changes.fall)?;
     glitch_of(alloc, writer, changes, row)
 }
 
@@ -187,16 +175,15 @@ fn changed_of(
     changes: &Changes,
     row: &Row,
 ) -> Result<(), AllocError>
-    ensures { OnOk result (Adds writer.old writer.new (items_tokens (changes_value (Some changes.now) (requirement_value row.now.required row.now.found)))) }
+    ensures { OnOk result (Adds writer.old writer.new (members_tokens (changes_value (Some changes.now) (requirement_value row.now.required row.now.found)))) }
 {
-    writer.string("rise")?;
-    column_of(writer, changes.rise)?;
+    figure(writer, "rise", changes.rise)?;
     fall_of(alloc, writer, changes, row)
 }
 
 /// What is found by the levels, where that is asked for, and what follows it.
 fn changes_of(alloc: Global, writer: &mut Writer, row: &Row) -> Result<(), AllocError>
-    ensures { OnOk result (Adds writer.old writer.new (items_tokens (changes_value row.now.changes (requirement_value row.now.required row.now.found)))) }
+    ensures { OnOk result (Adds writer.old writer.new (members_tokens (changes_value row.now.changes (requirement_value row.now.required row.now.found)))) }
 {
     match &row.changes {
         None => requirement_of(alloc, writer, row.required, row.found),
@@ -211,20 +198,16 @@ fn vectors_of(
     pair: &Vectors,
     row: &Row,
 ) -> Result<(), AllocError>
-    ensures { OnOk result (Adds writer.old writer.new (items_tokens (pair_value (Some pair.now) (changes_value row.now.changes (requirement_value row.now.required row.now.found))))) }
+    ensures { OnOk result (Adds writer.old writer.new (members_tokens (pair_value (Some pair.now) (changes_value row.now.changes (requirement_value row.now.required row.now.found))))) }
 {
-    let from = characters_of(alloc, pair.from.bits())?;
-    let to = characters_of(alloc, pair.to.bits())?;
-    writer.string("from")?;
-    writer.string(&from)?;
-    writer.string("to")?;
-    writer.string(&to)?;
+    vector(alloc, writer, "from", &pair.from)?;
+    vector(alloc, writer, "to", &pair.to)?;
     changes_of(alloc, writer, row)
 }
 
 /// The pair, where it is asked for and known, and what follows it.
 fn pair_of(alloc: Global, writer: &mut Writer, row: &Row) -> Result<(), AllocError>
-    ensures { OnOk result (Adds writer.old writer.new (items_tokens (pair_value row.now.pair (changes_value row.now.changes (requirement_value row.now.required row.now.found))))) }
+    ensures { OnOk result (Adds writer.old writer.new (members_tokens (pair_value row.now.pair (changes_value row.now.changes (requirement_value row.now.required row.now.found))))) }
 {
     match &row.pair {
         None => changes_of(alloc, writer, row),
@@ -234,70 +217,19 @@ fn pair_of(alloc: Global, writer: &mut Writer, row: &Row) -> Result<(), AllocErr
 
 /// The bound by edges, and what follows it.
 fn edges_of(alloc: Global, writer: &mut Writer, row: &Row) -> Result<(), AllocError>
-    ensures { OnOk result (Adds writer.old writer.new (items_tokens (edges_value row.now))) }
+    ensures { OnOk result (Adds writer.old writer.new (members_tokens (edges_value row.now))) }
 {
-    writer.string("edges")?;
-    moment_value(writer, row.edges)?;
+    bound(writer, "edges", row.edges)?;
     pair_of(alloc, writer, row)
-}
-
-fn exact(alloc: Global, writer: &mut Writer, time: u64, row: &Row) -> Result<(), AllocError>
-    ensures { OnOk result (Adds writer.old writer.new (items_tokens (found_value (FoundAs.Exact time) row.now))) }
-{
-    writer.string("exact")?;
-    writer.u64(time)?;
-    edges_of(alloc, writer, row)
-}
-
-fn within(
-    alloc: Global,
-    writer: &mut Writer,
-    low: u64,
-    high: u64,
-    row: &Row,
-) -> Result<(), AllocError>
-    ensures { OnOk result (Adds writer.old writer.new (items_tokens (found_value (FoundAs.Between low high) row.now))) }
-{
-    writer.string("between")?;
-    writer.u64(low)?;
-    writer.u64(high)?;
-    edges_of(alloc, writer, row)
-}
-
-fn up_to(alloc: Global, writer: &mut Writer, high: u64, row: &Row) -> Result<(), AllocError>
-    ensures { OnOk result (Adds writer.old writer.new (items_tokens (found_value (FoundAs.AtMost high) row.now))) }
-{
-    writer.string("between")?;
-    writer.null()?;
-    writer.u64(high)?;
-    edges_of(alloc, writer, row)
-}
-
-fn without_pair(alloc: Global, writer: &mut Writer, row: &Row) -> Result<(), AllocError>
-    ensures { OnOk result (Adds writer.old writer.new (items_tokens (found_value FoundAs.NoPair row.now))) }
-{
-    writer.string("none")?;
-    edges_of(alloc, writer, row)
-}
-
-/// What is found of an output, and the end of the array.
-fn found_of(alloc: Global, writer: &mut Writer, row: &Row) -> Result<(), AllocError>
-    ensures { OnOk result (Adds writer.old writer.new (items_tokens (found_value row.now.found row.now))) }
-{
-    match row.found {
-        Found::Exact(time) => exact(alloc, writer, time, row),
-        Found::Between { low, high } => within(alloc, writer, low, high, row),
-        Found::AtMost(high) => up_to(alloc, writer, high, row),
-        Found::NoPair => without_pair(alloc, writer, row),
-    }
 }
 
 impl Valued for Row {
     ghost value = { row_value };
 
     fn value(&self, alloc: Global, writer: &mut Writer) -> Result<(), AllocError> {
-        writer.begin_array()?;
-        writer.string(self.output.text())?;
-        found_of(alloc, writer, self)
+        writer.begin_object()?;
+        word(writer, "output", self.output.text())?;
+        found_of(writer, self.found)?;
+        edges_of(alloc, writer, self)
     }
 }

@@ -2,12 +2,14 @@
 
 ghost use Rattle.std.specs.Prelude.{◌≡◌, ◌++◌, codes, decimal, string_bytes, Some, IfOk, OnOk};
 ghost use Rattle.json.specs.Json.{number};
-ghost use Rattle.json.specs.Tree.{json_tokens, items_tokens};
+ghost use Rattle.json.specs.Tree.{json_tokens, members_tokens};
 ghost use Rattle.td_lines.specs.declared.line.Found.TheVariants as FoundAs;
 ghost use Rattle.td_lines.specs.Texts.{slack_text, slacks_text, requirement_text};
-ghost use Rattle.td_lines.specs.Values.{Adds, slack_value, slacks_value, requirement_value};
+ghost use Rattle.td_lines.specs.Values.{Adds, member_tokens, found_key, slack_value, slacks_value, slack_object, requirement_value};
 
+use crate::figures::holds;
 use crate::line::{Found, Requirement};
+use crate::members::word;
 use crate::texts::Text;
 use json::Writer;
 use std::alloc::{AllocError, Global};
@@ -100,6 +102,13 @@ fn slack_of(alloc: Global, writer: &mut Writer, moment: u64, figure: u64) -> Res
     writer.u64(moment - figure)
 }
 
+fn exact_of(alloc: Global, writer: &mut Writer, moment: u64, time: u64) -> Result<(), AllocError>
+    ensures { OnOk result (Adds writer.old writer.new (member_tokens (codes "exact") (slacks_value moment (FoundAs.Exact time)))) }
+{
+    writer.key("exact")?;
+    slack_of(alloc, writer, moment, time)
+}
+
 /// The slacks of two figures, the lower slack first.
 fn between_of(
     alloc: Global,
@@ -108,8 +117,9 @@ fn between_of(
     low: u64,
     high: u64,
 ) -> Result<(), AllocError>
-    ensures { OnOk result (Adds writer.old writer.new (json_tokens (slacks_value moment (FoundAs.Between low high)))) }
+    ensures { OnOk result (Adds writer.old writer.new (member_tokens (codes "between") (slacks_value moment (FoundAs.Between low high)))) }
 {
+    writer.key("between")?;
     writer.begin_array()?;
     slack_of(alloc, writer, moment, high)?;
     slack_of(alloc, writer, moment, low)?;
@@ -118,28 +128,43 @@ fn between_of(
 
 /// The slack of an upper figure alone.
 fn from_of(alloc: Global, writer: &mut Writer, moment: u64, high: u64) -> Result<(), AllocError>
-    ensures { OnOk result (Adds writer.old writer.new (json_tokens (slacks_value moment (FoundAs.AtMost high)))) }
+    ensures { OnOk result (Adds writer.old writer.new (member_tokens (codes "between") (slacks_value moment (FoundAs.AtMost high)))) }
 {
+    writer.key("between")?;
     writer.begin_array()?;
     slack_of(alloc, writer, moment, high)?;
     writer.null()?;
     writer.end_array()
 }
 
+/// The slacks under the key of what is found.
 fn slacks_of(
     alloc: Global,
     writer: &mut Writer,
     moment: u64,
     found: Found,
 ) -> Result<(), AllocError>
-    ensures { OnOk result (Adds writer.old writer.new (json_tokens (slacks_value moment found))) }
+    ensures { OnOk result (Adds writer.old writer.new (member_tokens (found_key found) (slacks_value moment found))) }
 {
     match found {
-        Found::Exact(time) => slack_of(alloc, writer, moment, time),
+        Found::Exact(time) => exact_of(alloc, writer, moment, time),
         Found::Between { low, high } => between_of(alloc, writer, moment, low, high),
         Found::AtMost(high) => from_of(alloc, writer, moment, high),
-        Found::NoPair => writer.string("none"),
+        Found::NoPair => holds(writer, "none"),
     }
+}
+
+fn object_of(
+    alloc: Global,
+    writer: &mut Writer,
+    moment: u64,
+    found: Found,
+) -> Result<(), AllocError>
+    ensures { OnOk result (Adds writer.old writer.new (json_tokens (slack_object moment found))) }
+{
+    writer.begin_object()?;
+    slacks_of(alloc, writer, moment, found)?;
+    writer.end_object()
 }
 
 fn required_of(
@@ -148,26 +173,25 @@ fn required_of(
     required: Requirement,
     found: Found,
 ) -> Result<(), AllocError>
-    ensures { OnOk result (Adds writer.old writer.new (items_tokens (requirement_value (Some required) found))) }
+    ensures { OnOk result (Adds writer.old writer.new (members_tokens (requirement_value (Some required) found))) }
 {
-    writer.string("required")?;
-    writer.string(required.standing.word())?;
-    writer.string("slack")?;
-    slacks_of(alloc, writer, required.moment, found)?;
-    writer.end_array()
+    word(writer, "standing", required.standing.word())?;
+    writer.key("slack")?;
+    object_of(alloc, writer, required.moment, found)?;
+    writer.end_object()
 }
 
-/// How a required moment stands, where there is one, and the end of the array.
+/// How a required moment stands, where there is one, and the end of the object.
 pub(crate) fn requirement_of(
     alloc: Global,
     writer: &mut Writer,
     required: Option<Requirement>,
     found: Found,
 ) -> Result<(), AllocError>
-    ensures { OnOk result (Adds writer.old writer.new (items_tokens (requirement_value required found))) }
+    ensures { OnOk result (Adds writer.old writer.new (members_tokens (requirement_value required found))) }
 {
     match required {
-        None => writer.end_array(),
+        None => writer.end_object(),
         Some(required) => required_of(alloc, writer, required, found),
     }
 }

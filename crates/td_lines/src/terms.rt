@@ -1,19 +1,25 @@
 //! The members of an object of JSON, as values.
 
 use crate::label::Label;
-use crate::line::Part;
 use std::alloc::{AllocError, Global};
+
+/// An option by name, and its word.
+#[derive(Debug, Drop)]
+pub struct Named {
+    pub option: Label,
+    pub word: Label,
+}
 
 /// What is said.
 #[derive(Debug, Drop)]
 pub enum Said {
     Word(Label),
     Number(u64),
-    /// Two numbers, as the delays of a rise and a fall.
-    Numbers(u64, u64),
+    /// The delays of a rise and a fall.
+    Delays { rise: u64, fall: u64 },
     Words(Vec<Label>),
     /// Options with their words.
-    Options(Vec<Part>),
+    Options(Vec<Named>),
 }
 
 /// A member: its key, and what is said of it.
