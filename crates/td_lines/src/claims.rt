@@ -91,7 +91,8 @@ fn without_line(writer: &mut Writer, number: u8, name: &str) -> Result<(), Alloc
     ensures { OnOk result (Adds writer.old writer.new (json_tokens (refused_value number name.now None))) }
 {
     writer.begin_object()?;
-    count_of(writer, "number", u64::from(number))?;
+    writer.key("number")?;
+    writer.u64(u64::from(number))?;
     word(writer, "verdict", name)?;
     writer.end_object()
 }
@@ -100,9 +101,11 @@ fn with_line(writer: &mut Writer, number: u8, name: &str, line: u32) -> Result<(
     ensures { OnOk result (Adds writer.old writer.new (json_tokens (refused_value number name.now (Some line)))) }
 {
     writer.begin_object()?;
-    count_of(writer, "number", u64::from(number))?;
+    writer.key("number")?;
+    writer.u64(u64::from(number))?;
     word(writer, "verdict", name)?;
-    count_of(writer, "line", u64::from(line))?;
+    writer.key("line")?;
+    writer.u64(u64::from(line))?;
     writer.end_object()
 }
 
