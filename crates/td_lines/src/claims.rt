@@ -1,6 +1,7 @@
 //! Members that tell what a certificate is about, or why it is refused.
 
 ghost use Rattle.std.specs.Prelude.{codes, None, Some, OnOk};
+ghost use Rattle.json.specs.Json.{string, member, no_members};
 ghost use Rattle.json.specs.Tree.{json_tokens, items_tokens, members_tokens};
 ghost use Rattle.td_lines.specs.Values.{Adds, items_by, rows_tokens, member_tokens, delays_value, index_value, output_value, named_line, refused_value};
 
@@ -87,13 +88,20 @@ pub(crate) fn output_numbers(
     numbers_of(writer, numbers)
 }
 
+/// The verdict's name, and the end of the object.
+fn name_ended(writer: &mut Writer, name: &str) -> Result<(), AllocError>
+    ensures { OnOk result (Adds writer.old writer.new (members_tokens (member (codes "verdict") (string name.now) no_members))) }
+{
+    last_word(writer, "verdict", name)
+}
+
 fn without_line(writer: &mut Writer, number: u8, name: &str) -> Result<(), AllocError>
     ensures { OnOk result (Adds writer.old writer.new (json_tokens (refused_value number name.now None))) }
 {
     writer.begin_object()?;
     writer.key("number")?;
     writer.u64(u64::from(number))?;
-    last_word(writer, "verdict", name)
+    name_ended(writer, name)
 }
 
 /// The verdict's name and its line, and the end of the object.

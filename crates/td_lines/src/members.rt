@@ -116,7 +116,7 @@ fn member(alloc: Global, writer: &mut Writer, line: &Line) -> Result<(), AllocEr
         Line::To(bits) => vector(alloc, writer, "to", bits),
         Line::Nodes(count) => count_of(writer, "nodes", *count),
         Line::Units(count) => count_of(writer, "units", *count),
-        Line::Required(moment, standing) => required(writer, *moment, *standing),
+        Line::Required(moment, standing) => required(writer, "required", *moment, *standing),
         Line::Each(rows) => lists(alloc, writer, "each", rows),
         Line::Hazards(rows) => lists(alloc, writer, "hazard", rows),
         Line::Parts(rows) => lists(alloc, writer, "parts", rows),
@@ -210,12 +210,18 @@ fn between(writer: &mut Writer, key: &str, low: u64, high: u64) -> Result<(), Al
     figure(writer, key, Found::Between { low, high })
 }
 
+fn greatest_ended(writer: &mut Writer, greatest: u64) -> Result<(), AllocError>
+    ensures { OnOk result (Adds writer.old writer.new (members_tokens (member (codes "greatest") (number (decimal greatest)) no_members))) }
+{
+    last_count(writer, "greatest", greatest)
+}
+
 fn spanned(writer: &mut Writer, least: u64, greatest: u64) -> Result<(), AllocError>
     ensures { OnOk result (Adds writer.old writer.new (json_tokens (spanned_value least greatest))) }
 {
     writer.begin_object()?;
     count_of(writer, "least", least)?;
-    last_count(writer, "greatest", greatest)
+    greatest_ended(writer, greatest)
 }
 
 /// The least and the greatest delay, or null.
@@ -292,10 +298,15 @@ fn stood(writer: &mut Writer, moment: u64, standing: Standing) -> Result<(), All
 }
 
 /// A required moment, and whether it is met.
-fn required(writer: &mut Writer, moment: u64, standing: Standing) -> Result<(), AllocError>
-    ensures { OnOk result (Adds writer.old writer.new (member_tokens (codes "required") (required_value moment standing))) }
+fn required(
+    writer: &mut Writer,
+    key: &str,
+    moment: u64,
+    standing: Standing,
+) -> Result<(), AllocError>
+    ensures { OnOk result (Adds writer.old writer.new (member_tokens key.now (required_value moment standing))) }
 {
-    writer.key("required")?;
+    writer.key(key)?;
     stood(writer, moment, standing)
 }
 
