@@ -78,10 +78,13 @@ abbrev pub required_value : ℕ → Standing → Json
 required_value moment standing =
     object (member (codes "time") (number (decimal moment)) (member (codes "standing") (string (standing_text standing)) no_members))
 
+abbrev pub spanned_value : ℕ → ℕ → Json
+spanned_value least greatest =
+    object (member (codes "least") (number (decimal least)) (member (codes "greatest") (number (decimal greatest)) no_members))
+
 abbrev pub span_value : Option Span → Json
 span_value None = null
-span_value (Some span) =
-    object (member (codes "least") (number (decimal span.least)) (member (codes "greatest") (number (decimal span.greatest)) no_members))
+span_value (Some span) = spanned_value span.least span.greatest
 
 abbrev pub place_value : Place → Json
 place_value row =
@@ -192,12 +195,14 @@ named name = array (item (sole (codes "name") (string name)) no_items)
 abbrev pub at_value : List ℕ → Json
 at_value moments = array (items_by count_value moments)
 
+-- a verdict's name, and its line
+abbrev pub named_line : List ℕ → ℕ → Members
+named_line name line = member (codes "verdict") (string name) (member (codes "line") (number (decimal line)) no_members)
+
 -- the verdict that refuses a certificate, and its line
 abbrev pub refused_value : ℕ → List ℕ → Option ℕ → Json
 refused_value count name None = object (member (codes "number") (number (decimal count)) (member (codes "verdict") (string name) no_members))
-refused_value count name (Some line) =
-    object (member (codes "number") (number (decimal count)) (member (codes "verdict") (string name)
-    (member (codes "line") (number (decimal line)) no_members)))
+refused_value count name (Some line) = object (member (codes "number") (number (decimal count)) (named_line name line))
 
 -- the delays of gates that state none
 abbrev pub delays_value : ℕ → ℕ → Json

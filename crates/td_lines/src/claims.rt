@@ -1,10 +1,11 @@
 //! Members that tell what a certificate is about, or why it is refused.
 
 ghost use Rattle.std.specs.Prelude.{codes, None, Some, OnOk};
-ghost use Rattle.json.specs.Tree.{json_tokens, items_tokens};
-ghost use Rattle.td_lines.specs.Values.{Adds, items_by, rows_tokens, member_tokens, delays_value, index_value, output_value, refused_value};
+ghost use Rattle.json.specs.Json.{string, member, no_members};
+ghost use Rattle.json.specs.Tree.{json_tokens, items_tokens, members_tokens};
+ghost use Rattle.td_lines.specs.Values.{Adds, items_by, rows_tokens, member_tokens, delays_value, index_value, output_value, named_line, refused_value};
 
-use crate::members::{count_of, word};
+use crate::members::{count_of, last_count, last_word, word};
 use crate::moments::Moments;
 use json::Writer;
 use std::alloc::AllocError;
@@ -87,23 +88,37 @@ pub(crate) fn output_numbers(
     numbers_of(writer, numbers)
 }
 
+/// The verdict's name, and the end of the object.
+fn name_ended(writer: &mut Writer, name: &str) -> Result<(), AllocError>
+    ensures { OnOk result (Adds writer.old writer.new (members_tokens (member (codes "verdict") (string name.now) no_members))) }
+{
+    last_word(writer, "verdict", name)
+}
+
 fn without_line(writer: &mut Writer, number: u8, name: &str) -> Result<(), AllocError>
     ensures { OnOk result (Adds writer.old writer.new (json_tokens (refused_value number name.now None))) }
 {
     writer.begin_object()?;
-    count_of(writer, "number", u64::from(number))?;
+    writer.key("number")?;
+    writer.u64(u64::from(number))?;
+    name_ended(writer, name)
+}
+
+/// The verdict's name and its line, and the end of the object.
+fn line_ended(writer: &mut Writer, name: &str, line: u32) -> Result<(), AllocError>
+    ensures { OnOk result (Adds writer.old writer.new (members_tokens (named_line name.now line))) }
+{
     word(writer, "verdict", name)?;
-    writer.end_object()
+    last_count(writer, "line", u64::from(line))
 }
 
 fn with_line(writer: &mut Writer, number: u8, name: &str, line: u32) -> Result<(), AllocError>
     ensures { OnOk result (Adds writer.old writer.new (json_tokens (refused_value number name.now (Some line)))) }
 {
     writer.begin_object()?;
-    count_of(writer, "number", u64::from(number))?;
-    word(writer, "verdict", name)?;
-    count_of(writer, "line", u64::from(line))?;
-    writer.end_object()
+    writer.key("number")?;
+    writer.u64(u64::from(number))?;
+    line_ended(writer, name, line)
 }
 
 fn verdict(writer: &mut Writer, number: u8, name: &str, line: Option<u32>) -> Result<(), AllocError>

@@ -1,12 +1,12 @@
 //! The members of a report as JSON, one for each line.
 
 ghost use Rattle.std.specs.Prelude.{◌≡◌, ◌∷◌, [], map, codes, decimal, string_bytes, Some, None, IfOk, OnOk};
-ghost use Rattle.json.specs.Json.{number, string, array, Json};
+ghost use Rattle.json.specs.Json.{number, string, array, member, no_members, Json};
 ghost use Rattle.json.specs.Tree.{json_tokens, items_tokens, members_tokens};
 ghost use Rattle.td_nets.specs.Scales.{scale_text};
 ghost use Rattle.td_lines.specs.declared.line.Found.TheVariants as FoundAs;
-ghost use Rattle.td_lines.specs.Texts.{bit, bits, level_text, kind_text};
-ghost use Rattle.td_lines.specs.Values.{Adds, items_by, rows_tokens, count_value, unit_text, cause_text, required_value, moment_of, numbers_of, none_to, span_value, place_value, last_value, driven_value, new_value, change_value, found_object, part_value, member_tokens, line_tokens, members_of, named, at_value};
+ghost use Rattle.td_lines.specs.Texts.{bit, bits, level_text, kind_text, standing_text};
+ghost use Rattle.td_lines.specs.Values.{Adds, items_by, rows_tokens, count_value, unit_text, cause_text, required_value, moment_of, numbers_of, none_to, span_value, spanned_value, place_value, last_value, driven_value, new_value, change_value, found_object, part_value, member_tokens, line_tokens, members_of, named, at_value};
 
 use crate::claims;
 use crate::figures::{at_most, figure, holds, two};
@@ -116,7 +116,7 @@ fn member(alloc: Global, writer: &mut Writer, line: &Line) -> Result<(), AllocEr
         Line::To(bits) => vector(alloc, writer, "to", bits),
         Line::Nodes(count) => count_of(writer, "nodes", *count),
         Line::Units(count) => count_of(writer, "units", *count),
-        Line::Required(moment, standing) => required(writer, *moment, *standing),
+        Line::Required(moment, standing) => required(writer, "required", *moment, *standing),
         Line::Each(rows) => lists(alloc, writer, "each", rows),
         Line::Hazards(rows) => lists(alloc, writer, "hazard", rows),
         Line::Parts(rows) => lists(alloc, writer, "parts", rows),
@@ -150,6 +150,22 @@ pub(crate) fn word(writer: &mut Writer, key: &str, text: &str) -> Result<(), All
 {
     writer.key(key)?;
     writer.string(text)
+}
+
+/// A number as the last member of an object.
+pub(crate) fn last_count(writer: &mut Writer, key: &str, count: u64) -> Result<(), AllocError>
+    ensures { OnOk result (Adds writer.old writer.new (members_tokens (member key.now (number (decimal count)) no_members))) }
+{
+    count_of(writer, key, count)?;
+    writer.end_object()
+}
+
+/// A text as the last member of an object.
+pub(crate) fn last_word(writer: &mut Writer, key: &str, text: &str) -> Result<(), AllocError>
+    ensures { OnOk result (Adds writer.old writer.new (members_tokens (member key.now (string text.now) no_members))) }
+{
+    word(writer, key, text)?;
+    writer.end_object()
 }
 
 fn moment(writer: &mut Writer, moment: Option<u64>) -> Result<(), AllocError>
@@ -194,13 +210,18 @@ fn between(writer: &mut Writer, key: &str, low: u64, high: u64) -> Result<(), Al
     figure(writer, key, Found::Between { low, high })
 }
 
-fn spanned(writer: &mut Writer, delays: Span) -> Result<(), AllocError>
-    ensures { OnOk result (Adds writer.old writer.new (json_tokens (span_value (Some delays)))) }
+fn greatest_ended(writer: &mut Writer, greatest: u64) -> Result<(), AllocError>
+    ensures { OnOk result (Adds writer.old writer.new (members_tokens (member (codes "greatest") (number (decimal greatest)) no_members))) }
+{
+    last_count(writer, "greatest", greatest)
+}
+
+fn spanned(writer: &mut Writer, least: u64, greatest: u64) -> Result<(), AllocError>
+    ensures { OnOk result (Adds writer.old writer.new (json_tokens (spanned_value least greatest))) }
 {
     writer.begin_object()?;
-    count_of(writer, "least", delays.least)?;
-    count_of(writer, "greatest", delays.greatest)?;
-    writer.end_object()
+    count_of(writer, "least", least)?;
+    greatest_ended(writer, greatest)
 }
 
 /// The least and the greatest delay, or null.
@@ -209,7 +230,7 @@ fn span(writer: &mut Writer, delays: Option<Span>) -> Result<(), AllocError>
 {
     match delays {
         None => writer.null(),
-        Some(delays) => spanned(writer, delays),
+        Some(delays) => spanned(writer, delays.least, delays.greatest),
     }
 }
 
@@ -262,15 +283,31 @@ fn cause_word(why: Cause) -> &'static str
     }
 }
 
-/// A required moment, and whether it is met.
-fn required(writer: &mut Writer, moment: u64, standing: Standing) -> Result<(), AllocError>
-    ensures { OnOk result (Adds writer.old writer.new (member_tokens (codes "required") (required_value moment standing))) }
+fn standing_ended(writer: &mut Writer, standing: Standing) -> Result<(), AllocError>
+    ensures { OnOk result (Adds writer.old writer.new (members_tokens (member (codes "standing") (string (standing_text standing)) no_members))) }
 {
-    writer.key("required")?;
+    last_word(writer, "standing", standing.word())
+}
+
+fn stood(writer: &mut Writer, moment: u64, standing: Standing) -> Result<(), AllocError>
+    ensures { OnOk result (Adds writer.old writer.new (json_tokens (required_value moment standing))) }
+{
     writer.begin_object()?;
     count_of(writer, "time", moment)?;
-    word(writer, "standing", standing.word())?;
-    writer.end_object()
+    standing_ended(writer, standing)
+}
+
+/// A required moment, and whether it is met.
+fn required(
+    writer: &mut Writer,
+    key: &str,
+    moment: u64,
+    standing: Standing,
+) -> Result<(), AllocError>
+    ensures { OnOk result (Adds writer.old writer.new (member_tokens key.now (required_value moment standing))) }
+{
+    writer.key(key)?;
+    stood(writer, moment, standing)
 }
 
 fn cause(writer: &mut Writer, why: Cause) -> Result<(), AllocError>
