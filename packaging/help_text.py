@@ -11,7 +11,7 @@ import subprocess
 import sys
 from dataclasses import dataclass, field
 
-HEADINGS = ("Question", "Effort", "Output")
+HEADINGS = ("Question", "Search", "Output")
 LISTS = {it: it for it in ("Commands", "Arguments", "Options")} | dict.fromkeys(HEADINGS, "Options")
 HEAD = {
     "Commands": re.compile(r" {2}(?P<name>[a-z][\w-]*)(?: {2,}(?P<text>.*))?$"),

@@ -102,7 +102,7 @@ def entries(found):
 
 def command_part(name, help_):
     """What the page says of one command: its usage, its arguments and options, and its notes."""
-    own = [entry for entry in help_.options if entry.name != "--help"]
+    own = [entry for entry in help_.options if entry.name not in ("--help", "--version")]
     notes = help_.sections()[""]
     parts = [f".SS tdelay {name}", usage(help_), entries(help_.arguments + own)]
     parts += [".PP", paragraphs(notes)] if notes.strip() else []

@@ -2,9 +2,10 @@
 """options.py PROGRAM --write | --check: the tables of options in docs/MANUAL.md, made from what
 `PROGRAM COMMAND --help` lists.
 
-An option that each command has, or several commands, is in a table for all of them; each command
-has a table of its own options, and a line with the names of the others. Each table stands between
-two comments that name it. `--check` ends with status 1 where the page has other tables.
+An option that each command has, or several commands, is in a table for all of them, but for
+`--help` and `--version`; each command has a table of its own options, and a line with the names of
+the others. Each table stands between two comments that name it. `--check` ends with status 1 where
+the page has other tables.
 """
 
 import os
@@ -27,7 +28,7 @@ def by_name(helps):
     found = {}
     for command, help_ in helps.items():
         for entry in help_.options:
-            if entry.name and entry.name != "--help":
+            if entry.name not in ("", "--help", "--version"):
                 found.setdefault(entry.name, {})[command] = entry
     return found
 

@@ -52,7 +52,7 @@ line on standard error, and then the usage; here are the first line and the stat
 Help and the version go to standard output.
 
   $ tdelay join --help | head -1; tdelay --version; tdelay --help | head -3
-  Joins the certificates of a question's parts into one of the whole question
+  Joins the certificates of a question's parts into one
   tdelay 1 (reads certificates of versions 1 to 4)
   Worst transition delay of a netlist of Verilog gate primitives
   

@@ -11,8 +11,8 @@ Help and the version go to standard output. A line with a dot alone stands for a
     bound  Bounds the delay of all pairs of vectors that patterns allow
     worst  Searches for the worst delay, and a pair of vectors that has it
     parts  Cuts the question of `worst` into parts, and prints the options of each
-    join   Joins the certificates of a question's parts into one of the whole question
-    check  Checks the certificate of a worst delay by the netlist alone, whoever wrote it
+    join   Joins the certificates of a question's parts into one
+    check  Checks the certificate of a worst delay by the netlist alone
     info   Prints a netlist's size, depth and delays, its inputs and its outputs
     help   Print this message or the help of the given subcommand(s)
   .
@@ -62,7 +62,8 @@ Help and the version go to standard output. A line with a dot alone stands for a
             or those of --at on
   .
   Options:
-    -h, --help  Print help
+    -h, --help     Print help
+    -V, --version  Print version
   .
   Question:
         --at <TIMES>        When each input takes its second level: a number of
@@ -89,7 +90,7 @@ Help and the version go to standard output. A line with a dot alone stands for a
     -q, --quiet       Prints no report: the exit status shows how the
                       command ended
   .
-  Effort:
+  Search:
         --seconds <N>  Ends the whole run, tables too, after this many
                        seconds of the clock. What `worst` leaves open then
                        lies between two figures; `sim`, `path` and `check`
@@ -98,6 +99,10 @@ Help and the version go to standard output. A line with a dot alone stands for a
   Example:
     tdelay sim c17.v 00000 11111 --vcd c17.vcd
   $ tdelay --version
+  tdelay 1 (reads certificates of versions 1 to 4)
+  $ for it in sim path bound worst parts join check info; do tdelay $it --version; tdelay $it -V; done | uniq -c | sed 's/^ *//'
+  16 tdelay 1 (reads certificates of versions 1 to 4)
+  $ tdelay worst nowhere.v --budget 5 -V | cat
   tdelay 1 (reads certificates of versions 1 to 4)
   $ tdelay --help 2>&1 >/dev/null; tdelay sim --help 2>&1 >/dev/null; tdelay --version 2>&1 >/dev/null
 
@@ -167,7 +172,7 @@ Numbers outside their ranges, another name of a strategy, a value behind a flag,
   2 error:
   2 error:
 
-No line of help is wider than 100 columns.
+No line of help is wider than 80 columns.
 
-  $ (tdelay --help; for command in sim path bound worst parts join check info; do tdelay $command --help; done) | awk 'length > 100 { print } END { print (NR > 150) }'
+  $ (tdelay --help; for command in sim path bound worst parts join check info; do tdelay $command --help; done) | awk 'length > 80 { print } END { print (NR > 150) }'
   1

@@ -109,7 +109,7 @@ Help and the version are no reports.
 
   $ tdelay sim --help --json | cmp - <(tdelay sim --help)
   $ tdelay check --json --help | head -1
-  Checks the certificate of a worst delay by the netlist alone, whoever wrote it
+  Checks the certificate of a worst delay by the netlist alone
 
 Refusals, statuses and hints are as without it.
 

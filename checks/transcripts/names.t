@@ -344,7 +344,7 @@ Commands that don't take them refuse them as any option.
   $ tdelay sim bus.v 000000 111111 --pin a=1
   error: unexpected argument '--pin' found
   
-    tip: to pass '--pin' as a value, use '-- --pin'
+    help: bound, worst, parts and join take --pin, sim doesn't
   
   Usage: tdelay sim <FILE> <FROM> <TO>
   
@@ -353,7 +353,7 @@ Commands that don't take them refuse them as any option.
   $ tdelay bound bus.v --keep a=11
   error: unexpected argument '--keep' found
   
-    tip: to pass '--keep' as a value, use '-- --keep'
+    help: worst, parts and join take --keep, bound doesn't
   
   Usage: tdelay bound <FILE>
   
@@ -362,7 +362,7 @@ Commands that don't take them refuse them as any option.
   $ tdelay check bus.v all.cert --pin a=1
   error: unexpected argument '--pin' found
   
-    tip: to pass '--pin' as a value, use '-- --pin'
+    help: bound, worst, parts and join take --pin, check doesn't
   
   Usage: tdelay check <FILE> <CERT>
   
@@ -371,7 +371,7 @@ Commands that don't take them refuse them as any option.
   $ tdelay info bus.v --hold-input a
   error: unexpected argument '--hold-input' found
   
-    tip: to pass '--hold-input' as a value, use '-- --hold-input'
+    help: bound, worst, parts and join take --hold-input, info doesn't
   
   Usage: tdelay info <FILE>
   

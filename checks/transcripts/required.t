@@ -304,8 +304,6 @@ Words that say no moment, and options that don't go together.
   $ tdelay worst hazard.v --required -1
   error: unexpected argument '-1' found
   
-    tip: to pass '-1' as a value, use '-- -1'
-  
   Usage: tdelay worst [OPTIONS] <FILE>
   
   For more information, try '--help'.
@@ -334,7 +332,7 @@ Words that say no moment, and options that don't go together.
   $ tdelay sim hazard.v 000 101 --required 5
   error: unexpected argument '--required' found
   
-    tip: to pass '--required' as a value, use '-- --required'
+    help: bound, worst, parts and join take --required, sim doesn't
   
   Usage: tdelay sim <FILE> <FROM> <TO>
   

@@ -76,7 +76,7 @@ pub(crate) fn quote(text: &mut Text, bytes: &[u8], line: u32) -> Result<(), Allo
 }
 
 /// The byte, or `?` where a terminal doesn't show it.
-fn printable(byte: u8) -> u8 {
+pub(crate) fn printable(byte: u8) -> u8 {
     match byte {
         b'\t' => b' ',
         32..=126 => byte,

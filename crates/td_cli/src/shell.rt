@@ -151,7 +151,7 @@ fn request_of<'w, 'x, O: Sink, E: Sink>(
     match asked(alloc, words) {
         Ok(Some(request)) => Ok(request),
         Ok(None) => Err(refuse_words(ReadFault::Device, err)),
-        Err(error) => Err(tell_usage(alloc, &error, out, err)),
+        Err(error) => Err(tell_usage(alloc, &error, words.all(), out, err)),
     }
 }
 

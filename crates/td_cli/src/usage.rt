@@ -9,6 +9,7 @@ ghost use Rattle.td_cli.specs.Ends.{ShowsText, TellsFault};
 use crate::fault::Fault;
 use crate::message::{tell, tell_fault};
 use crate::print::write;
+use crate::tips::with_advice;
 use clap::Error;
 use clap::error::ErrorKind;
 use std::alloc::{AllocError, Global};
@@ -41,11 +42,21 @@ fn show_help<O: Sink, E: Sink>(
     }
 }
 
-/// Tells a fault of the words on standard error, help on standard output. Answers how the program
+/// Writes the text of a fault of the words to standard error, with advice that serves in place of
+/// the parser's tips; as it is where memory runs out.
+fn refuse<E: Sink>(alloc: Global, error: &Error, text: &str, words: &[&str], err: &mut E) {
+    match with_advice(alloc, error, text, words) {
+        Ok(text) => tell(err, text.bytes()),
+        Err(_) => tell(err, text.as_bytes()),
+    }
+}
+
+/// Tells a fault of these words on standard error, help on standard output. Answers how the program
 /// ends.
 pub(crate) fn tell_usage<O: Sink, E: Sink>(
     alloc: Global,
     error: &Error,
+    words: &[&str],
     out: &mut O,
     err: &mut E,
 ) -> Status
@@ -56,7 +67,7 @@ pub(crate) fn tell_usage<O: Sink, E: Sink>(
         Err(_) => return tell_fault(alloc, Fault::OutOfMemory, err),
     };
     if error.use_stderr() {
-        tell(err, text.as_bytes());
+        refuse(alloc, error, text.as_str(), words, err);
         return Status::BadCommand;
     }
     show_help(alloc, error, &text, out, err)

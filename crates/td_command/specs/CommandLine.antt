@@ -181,12 +181,12 @@ check_command = command_of (codes "check") (needed (codes "FILE") ∷ needed (co
 abbrev pub info_command : App
 info_command = command_of (codes "info") (needed (codes "FILE") ∷ [])
 
--- the program before it is given its commands: it has a version, and one of the commands has to be
--- given
+-- the program before it is given its commands: it has a version, which each of them has too, and one
+-- of them has to be given
 abbrev pub bare : App
 bare =
     let named : App = new_app (codes "tdelay") in
-    record named { top = record named.top { subcommand_required = true; has_version = true } }
+    record named { top = record named.top { subcommand_required = true; has_version = true; propagate_version = true } }
 
 abbrev pub commands : Listed → List App
 commands strategies =

@@ -30,7 +30,7 @@ impl<'a> Model for Arguments<'a> {
 }
 
 /// The options that say what is asked.
-const QUESTION: [&str; 13] = [
+const QUESTION: [&str; 14] = [
     "first",
     "second",
     "pin",
@@ -44,19 +44,20 @@ const QUESTION: [&str; 13] = [
     "output",
     "default-rise",
     "default-fall",
+    "parts",
 ];
 
-/// The options that say how far a command goes.
-const EFFORT: [&str; 9] = [
-    "workers", "strategy", "budget", "seconds", "memory", "stop", "parts", "check", "no-check",
+/// The options that say how a command searches, and how far it goes.
+const SEARCH: [&str; 8] = [
+    "workers", "strategy", "budget", "seconds", "memory", "stop", "check", "no-check",
 ];
 
 /// The heading under which help shows the option of this name.
 fn heading_of(id: &str) -> &'static str {
     if QUESTION.contains(&id) {
         "Question"
-    } else if EFFORT.contains(&id) {
-        "Effort"
+    } else if SEARCH.contains(&id) {
+        "Search"
     } else {
         "Output"
     }
@@ -226,7 +227,8 @@ impl<'a> Arguments<'a> {
         self.add(flag(self.alloc, id, help))
     }
 
-    /// The command of this name that has these arguments.
+    /// The command of this name that has these arguments. Its version is shown under the program's
+    /// name.
     pub(crate) fn command(
         self,
         name: &'a str,
@@ -235,9 +237,10 @@ impl<'a> Arguments<'a> {
     ) -> Result<Command<'a>, AllocError>
         ensures { IfOk result (λ command. app_of command ≡ reported (new_app name.entry.now) self.entry) }
     {
-        Command::new(self.alloc, name)
+        let shown = Command::new(self.alloc, name)
             .about(about)
             .after_help(examples)
-            .args(self.list)
+            .display_name("tdelay")?;
+        shown.args(self.list)
     }
 }

@@ -169,7 +169,7 @@ impl<'a> Commands<'a> {
         arguments.common()?;
         self.add(
             "join",
-            "Joins the certificates of a question's parts into one of the whole question",
+            "Joins the certificates of a question's parts into one",
             JOIN_HELP,
             arguments,
         )
@@ -186,7 +186,7 @@ impl<'a> Commands<'a> {
         arguments.common()?;
         self.add(
             "check",
-            "Checks the certificate of a worst delay by the netlist alone, whoever wrote it",
+            "Checks the certificate of a worst delay by the netlist alone",
             CHECK_HELP,
             arguments,
         )
@@ -263,6 +263,7 @@ fn bare<'a>(alloc: Global) -> Command<'a>
     Command::new(alloc, "tdelay")
         .about("Worst transition delay of a netlist of Verilog gate primitives")
         .version(VERSION)
+        .propagate_version(true)
         .after_help(HELP)
         .subcommand_required(true)
 }

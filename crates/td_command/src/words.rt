@@ -83,6 +83,13 @@ fn texts<'a, S: AsStr>(alloc: Global, words: &'a [S]) -> Result<Vec<&'a str>, Al
 }
 
 impl<'a> Words<'a> {
+    /// The words as they came.
+    pub fn all(&self) -> &[&'a str]
+        ensures { result.now ≡ self.now.all.items }
+    {
+        &self.all
+    }
+
     /// The words of a command line, of which the first is the program's name.
     pub fn new<S: AsStr>(alloc: Global, words: &'a [S]) -> Result<Words<'a>, AllocError>
         ensures { IfOk result (AreParted (map S.text words.entry.now)) }

@@ -5,7 +5,7 @@ use std::env::Env;
 use std::io::IsTerminal;
 use std::process::ExitCode;
 use std::{env, io};
-use td_cli::{System, program, refuse_words};
+use td_cli::{System, explain_words, program, refuse_words};
 use td_files::{ReadFault, RealFiles, WriterSink};
 use td_terminal::InPlace;
 
@@ -42,7 +42,11 @@ fn main(rt: HostRuntime) -> ExitCode {
             let system = System::new(&rt, hints);
             program(&rt, alloc, words, &mut files, &mut out, &mut err, &system)
         }
-        Err(error) => refuse_words(ReadFault::from(error), &mut err),
+        Err(error) => {
+            let status = refuse_words(ReadFault::from(error), &mut err);
+            explain_words(&rt, alloc, hints, &mut err);
+            status
+        }
     };
     ExitCode::from(status.code())
 }
