@@ -35,7 +35,7 @@ from watch import AGAIN, EDIT, PROOF, TESTS, Watch
 
 COLUMNS = (PROOF, AGAIN, EDIT, TESTS)
 # How many crates a page lists.
-LISTED = 8
+LISTED = 4
 HEAD = "| Kit | Processors | By the clock | Processor seconds | Last line |"
 PASSED = re.compile(r"\d+ passed, 0 failed")
 
