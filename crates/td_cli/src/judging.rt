@@ -129,7 +129,7 @@ impl<'r, 'n, 'c, 'w> Case<'r, 'n, 'c, 'w> {
             thread::scope_env(),
             rt,
             |scope| -> Option<Result<Outcome, Refusal<'_, '_>>>
-                ensures { IfSome result (IsAnswered stop.now.can_be_set case.entry.request.now case.entry.texts.now) }
+                ensures { IfSome result (IsAnswered stop.entry.now.can_be_set case.entry.request.now case.entry.texts.now) }
             {
                 let promise = Answering {
                     request: Snapshot::of(case.request),
@@ -138,7 +138,7 @@ impl<'r, 'n, 'c, 'w> Case<'r, 'n, 'c, 'w> {
                 };
                 let mut waiting = Waiting::new(rt, alloc, is_asked, deadline, stop, board, err);
                 let job = move || -> Result<Outcome, Refusal<'_, '_>>
-                    ensures { IsAnswered stop.now.can_be_set case.entry.request.now case.entry.texts.now result }
+                    ensures { IsAnswered stop.entry.now.can_be_set case.entry.request.now case.entry.texts.now result }
                 {
                     let found = case.watched(rt, alloc, stop, is_asked, board);
                     timer.end(rt);

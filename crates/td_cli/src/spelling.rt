@@ -20,7 +20,7 @@ struct Spelling {
 /// Says, after `refuse_words`, which word isn't text in UTF-8, where hints are wanted or one of the
 /// words is `--hints`.
 pub fn explain_words<R: Env, E: Sink>(rt: &R, alloc: Global, hints: bool, err: &mut E) {
-    if let Ok(spelling) = spelling(rt, alloc) {
+    if let Ok(spelling) = spelling_of(rt, alloc) {
         if hints || spelling.asks_for_hints {
             advise(&Ok(spelling.hint), err);
         }
@@ -28,7 +28,7 @@ pub fn explain_words<R: Env, E: Sink>(rt: &R, alloc: Global, hints: bool, err: &
 }
 
 /// Looks at each word of the command line.
-fn spelling<R: Env>(rt: &R, alloc: Global) -> Result<Spelling, AllocError> {
+fn spelling_of<R: Env>(rt: &R, alloc: Global) -> Result<Spelling, AllocError> {
     let mut found = Spelling {
         asks_for_hints: false,
         hint: Text::new(alloc),
