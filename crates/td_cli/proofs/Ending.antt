@@ -128,8 +128,8 @@ shown_kind (inr is) = cc
 among : (words : Words) (error : Error) → HasFault words error → kind_of error ≢ kind.OutOfMemory → IsReported words (kind_of error)
 among words error (inl (inl memory)) other = absurd (other memory)
 among words error (inl (inr is)) other = inl is
-among words error (inr (inl memory)) other = absurd (other memory)
-among words error (inr (inr is)) other = inr is
+among words error (inr (untaken, inl memory)) other = absurd (other memory)
+among words error (inr (untaken, inr is)) other = inr (untaken, is)
 
 -- what the parser reports of the words was told
 pub told : (words : Words) (error : Error) (ending : Status) (old new : Output) → HasFault words error

@@ -27,5 +27,7 @@ IsParted true all scan words =
     (map (λ word. word.now) words.plain.items ≡ with_words scan.rest scan.given) × (map taken_in words.named.items ≡ scan.taken)
 IsParted false all scan words = (map (λ word. word.now) words.plain.items ≡ all) × (words.named.items ≡ [])
 
+-- the words as they came are kept too
 abbrev pub AreParted : List Text → Words → Type 0
-AreParted all words = IsParted (say_by_name (scan_of all).taken && begin_with_command all) all (scan_of all) words
+AreParted all words =
+    (map (λ word. word.now) words.all.items ≡ all) × IsParted (say_by_name (scan_of all).taken && begin_with_command all) all (scan_of all) words

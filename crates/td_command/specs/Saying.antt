@@ -176,11 +176,6 @@ EntersRequest entered named said = (name : Text) × (rows : List Row) × (entere
 abbrev pub plain_of : Words → List Text
 plain_of words = map (λ word. word.now) words.plain.items
 
--- The program takes the words, but for those by name, and they ask for this.
-pub record AskFor (words : Words) (said : Request) : Type 0 where
-  pub taken : kinds_of (plain_of words) ≡ []
-  pub asks : EntersRequest (subcommand_of program (plain_of words)) words.named.items said
-
 -- the command of this name takes what is said of inputs and nets by name
 abbrev pub takes : Text → List Said → Bool
 takes name named =
@@ -196,6 +191,13 @@ takes_entered (Some entered) named = takes entered.0 named
 -- the command of the words takes what they say by name
 abbrev pub take_names : Words → Bool
 take_names words = takes_entered (subcommand_of program (plain_of words)) (map taken_in words.named.items)
+
+-- The program takes the words, but for those by name, which their command takes, and they ask for
+-- this.
+pub record AskFor (words : Words) (said : Request) : Type 0 where
+  pub taken : kinds_of (plain_of words) ≡ []
+  pub names : take_names words ≡ true
+  pub asks : EntersRequest (subcommand_of program (plain_of words)) words.named.items said
 
 -- whatever else is said by name, words that the program takes ask for a command
 abbrev pub TakenAsk : Type 0

@@ -110,6 +110,7 @@ impl<'a> Words<'a> {
 
 /// The words as they came, those by name, and the others.
 fn apart<'a>(alloc: Global, all: Vec<&'a str>, scan: Scan<'a>) -> Result<Words<'a>, AllocError>
+    ensures came { IfOk result (λ words. words.all.items ≡ all.entry.items) }
     ensures plain { IfOk result (λ words. map (λ word. word.now) words.plain.items ≡ with_words (map (λ word. word.now) scan.entry.rest.items) (map (λ word. word.now) scan.entry.given.items)) }
     ensures named { IfOk result (λ words. words.named.items ≡ scan.entry.taken.items) }
 {

@@ -1,12 +1,13 @@
-use Rattle.std.proofs.Common.{◌≡◌, ◌∙◌, false, inl, map, subst, sym, ap, List, ℕ, Option, Some, None, IfNone}
-use Rattle.std.proofs.lemmas.Result.{IfOk-weaker}
+use Rattle.std.proofs.Common.{◌≡◌, ◌∙◌, Bool, false, true, inl, inr, map, subst, sym, ap, List, ℕ, Option, Some, None, IfNone}
+use Rattle.std.proofs.lemmas.Result.{IfErr-weaker, IfOk-weaker}
 use Rattle.std.specs.Borrow.{Bor}
-use Rattle.clap.specs.Words.{HasKind, Row, Text, subcommand_of, subcommand_rows_of}
+use Rattle.clap.specs.Words.{App, HasKind, Row, Text, is_simple, subcommand_of, subcommand_rows_of}
 use Rattle.td_inputs.specs.Scans.{taken_in}
 use Rattle.td_inputs.specs.declared.scanning.Taken.{Taken}
 use Rattle.td_request.specs.declared.request.Request.{Request}
-use Rattle.td_command.specs.CommandLine.{IsAnswered, kinds_of, program}
+use Rattle.td_command.specs.CommandLine.{IsAnswered, IsOfStrategies, kinds_of, program, program_of}
 use Rattle.td_command.specs.Saying.{EntersRequest, plain_of, take_names, takes_entered}
+use Rattle.td_command.specs.declared.words.Words.{Words}
 use Rattle.td_command.proofs.Parsed.{are_taken, has_kind, is_entered}
 use Rattle.td_command.proofs.Taken.{words_that_are_taken_ask}
 use Rattle.td_command.proofs.line.asked.Goals as goal
@@ -18,16 +19,30 @@ where_none (Some asked) x = tt
 abbrev texts : List (Bor (List ℕ)) → List Text
 texts words = map (λ word. word.now) words
 
+-- whether the command takes what is said by name, as it was found
+are_names_taken : (app : App) → IsOfStrategies program_of app → (words : Words) (plain : List (Bor (List ℕ))) (entered : Option (Text × List Row)) (named : List Taken) (are : Bool)
+    → plain ≡ words.plain.items → named ≡ words.named.items → (is_simple app ≡ true → entered ≡ subcommand_of app (texts plain))
+    → are ≡ takes_entered entered (map taken_in named) → take_names words ≡ are
+are_names_taken app is words plain entered named are same given found taken =
+    let entered_is : entered ≡ subcommand_of program (plain_of words) =
+    is_entered app is (texts plain) entered found
+    ∙ ap (λ (words : List (Bor (List ℕ))). subcommand_of program (texts words)) same in
+    ap (λ (entered : Option (Text × List Row)). takes_entered entered (map taken_in words.named.items)) (sym entered_is)
+    ∙ (ap (λ (named : List Taken). takes_entered entered (map taken_in named)) (sym given) ∙ sym taken)
+
 pub returns-then-not-takes_entered-clause-none : goal.returns-then-not-takes_entered-clause-none
 returns-then-not-takes_entered-clause-none c =
-    let entered : subcommand_rows_of c.in-Ok.matches ≡ subcommand_of program (plain_of c.args.words.now) =
-    is_entered _ c.in_ok-command.ensures (texts c.as_slice.result.now) _ (λ simple. (c.in-Ok.ensures.matches simple).1)
-    ∙ ap (λ (words : List (Bor (List ℕ))). subcommand_of program (texts words)) c.as_slice.ensures.value in
     let not_taken : take_names c.args.words.now ≡ false =
-    ap (λ (entered : Option (Text × List Row)). takes_entered entered (map taken_in c.args.words.now.named.items)) (sym entered)
-    ∙ (ap (λ (named : List Taken). takes_entered (subcommand_rows_of c.in-Ok.matches) (map taken_in named)) (sym c.deref.ensures.value)
-    ∙ sym c.if-not-takes_entered.ensures) in
+    are_names_taken _ c.in_ok-command.ensures c.args.words.now c.as_slice.result.now (subcommand_rows_of c.in-Ok.matches) c.deref.result.now false
+    c.as_slice.ensures.value c.deref.ensures.value (λ simple. (c.in-Ok.ensures.matches simple).1) c.if-not-takes_entered.ensures in
     IfOk-weaker c.untaken.result _ _ (λ asked is. where_none asked not_taken) c.untaken.ensures.asked
+
+pub returns-then-not-takes_entered-clause-fault : goal.returns-then-not-takes_entered-clause-fault
+returns-then-not-takes_entered-clause-fault c =
+    let not_taken : take_names c.args.words.now ≡ false =
+    are_names_taken _ c.in_ok-command.ensures c.args.words.now c.as_slice.result.now (subcommand_rows_of c.in-Ok.matches) c.deref.result.now false
+    c.as_slice.ensures.value c.deref.ensures.value (λ simple. (c.in-Ok.ensures.matches simple).1) c.if-not-takes_entered.ensures in
+    IfErr-weaker c.untaken.result _ _ (λ error is. inr (not_taken, is)) c.untaken.ensures.fault
 
 pub returns-in-Ok-Some-clause-asked : goal.returns-in-Ok-Some-clause-asked
 returns-in-Ok-Some-clause-asked c =
@@ -41,6 +56,8 @@ returns-in-Ok-Some-clause-asked c =
     record {
       taken = ap (λ (words : List (Bor (List ℕ))). kinds_of (texts words)) (sym same)
           ∙ are_taken _ c.in_ok-command.ensures (texts c.as_slice.result.now) c.in-Ok.ensures.kinds;
+      names = are_names_taken _ c.in_ok-command.ensures c.args.words.now c.as_slice.result.now (subcommand_rows_of c.in-Ok.matches) c.deref.result.now true
+          same c.deref.ensures.value (λ simple. (c.in-Ok.ensures.matches simple).1) c.if-not-takes_entered.ensures;
       asks = subst (λ rows. EntersRequest rows c.args.words.now.named.items c.in-Ok-Some.request) entered named;
     }
 
