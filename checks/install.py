@@ -23,6 +23,8 @@ import help_text
 INSTALL = os.path.join(places.PACKAGING, "install.sh")
 SOURCES = os.path.join(places.TOP, "build", "sources.py")
 COMMANDS = ["sim", "path", "bound", "worst", "parts", "join", "check", "info"]
+# The options of every command, which the man page lists once.
+EVERYWHERE = {"--help", "-h", "--version", "-V"}
 WANTED = "unit 1 ns\ndefaulted 6\nexact 3\nfrom 00000\nto 11111\nnodes 1\n"
 BRIDGES = os.path.join(places.TOP, "bridges")
 FILES = {
@@ -134,7 +136,7 @@ def man_page(tested, path):
         part = re.search(rf"(?ms)^\.SS tdelay {command}$(.*?)^\.S[SH] ", text)
         heads = " ".join(re.findall(r"(?m)^\.TP\n(.*)$", part[1] if part else ""))
         listed = options_of(tested.run(command, "--help").out)
-        options = sorted(set(re.findall(r"\\fB(--?[a-z][a-z-]*)\\fR", heads)) | {"--help", "-h"})
+        options = sorted(set(re.findall(r"\\fB(--?[a-z][a-z-]*)\\fR", heads)) | EVERYWHERE)
         tested.expect(f"the man page's options of {command}", listed, options)
     synopsis = re.search(r"(?ms)^\.SH SYNOPSIS$(.*?)^\.SH ", text)[1]
     used = re.findall(r"(?m)^tdelay (\w+) ", synopsis)
