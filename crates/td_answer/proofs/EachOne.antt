@@ -3,7 +3,7 @@ use Rattle.std.proofs.Common.{ℕ, List}
 use Rattle.td_reading.specs.declared.reading.Reading.{Reading}
 use Rattle.td_circuit.specs.Settings.{Setting}
 use Rattle.td_domain.specs.Pairs.{Pair}
-use Rattle.td_domain.specs.Admits.{Admitted, IsAdmitted}
+use Rattle.td_domain.specs.Admits.{IsAdmitted}
 use Rattle.td_refutation.specs.Asking.{Asking, IsAskedAbout, all_admitted}
 use Rattle.td_refutation.proofs.Asking.{nothing_kept}
 use Rattle.td_search.specs.declared.answers.Answer.{Answer}
@@ -17,7 +17,7 @@ use Rattle.td_worst.specs.declared.kept_answer.KeptAnswer.{KeptAnswer}
 use Rattle.td_worst.specs.declared.kept_answer.KeptAnswer.TheVariants as kept
 use Rattle.td_worst.specs.Kept.{IsKeptAnswer}
 use Rattle.td_request.specs.declared.request.Search.{Search}
-use Rattle.td_question.specs.Asking.{IsAsked}
+use Rattle.td_question.specs.Asking.{IsAskedKeeping}
 use Rattle.td_answer.specs.declared.refusal.Refusal.{Refusal}
 use Rattle.td_answer.specs.declared.refusal.Refusal.TheVariants as refusal
 use Rattle.td_answer.specs.Searches.{IsRefusedSearch}
@@ -61,19 +61,19 @@ unanswered problem failed.NoPair none = λ pair admitted. none (pair, admitted, 
 unanswered problem failed.OutOfMemory none = tt
 
 -- where the words ask about these pairs, and the search for an output has no answer
-pub refused_each : (text : List ℕ) (reading : Reading) (search : Search) (setting : Setting) (admit : Admitted) (reason : Refusal)
-    → IsAsked text reading search.question setting admit → IsUnanswered admit reason → IsRefusedSearch text reading search reason
-refused_each text reading asked_by setting admit refusal.OutOfMemory asked is = tt
-refused_each text reading asked_by setting admit (refusal.Search failed.NoPair) asked is = (setting, admit, asked, is)
-refused_each text reading asked_by setting admit (refusal.Search failed.OutOfMemory) asked is = tt
-refused_each text reading asked_by setting admit (refusal.Unread _) asked is = elim is [ ]
-refused_each text reading asked_by setting admit (refusal.Question _) asked is = elim is [ ]
-refused_each text reading asked_by setting admit (refusal.NoOutput _) asked is = elim is [ ]
-refused_each text reading asked_by setting admit (refusal.Check _) asked is = elim is [ ]
-refused_each text reading asked_by setting admit (refusal.BadPart _ _) asked is = elim is [ ]
-refused_each text reading asked_by setting admit (refusal.Unaccepted _ _) asked is = elim is [ ]
-refused_each text reading asked_by setting admit (refusal.OtherCircuit _) asked is = elim is [ ]
-refused_each text reading asked_by setting admit (refusal.NotJoined _) asked is = elim is [ ]
-refused_each text reading asked_by setting admit (refusal.OtherQuestion _) asked is = elim is [ ]
-refused_each text reading asked_by setting admit refusal.TooLong asked is = elim is [ ]
-refused_each text reading asked_by setting admit refusal.OutOfTime asked is = elim is [ ]
+pub refused_each : (text : List ℕ) (reading : Reading) (search : Search) (setting : Setting) (asking : Asking) (reason : Refusal)
+    → IsAskedKeeping text reading search.question setting asking → IsUnanswered asking.admit reason → IsRefusedSearch text reading search reason
+refused_each text reading asked_by setting asking refusal.OutOfMemory asked is = tt
+refused_each text reading asked_by setting asking (refusal.Search failed.NoPair) asked is = (setting, asking, asked, is)
+refused_each text reading asked_by setting asking (refusal.Search failed.OutOfMemory) asked is = tt
+refused_each text reading asked_by setting asking (refusal.Unread _) asked is = elim is [ ]
+refused_each text reading asked_by setting asking (refusal.Question _) asked is = elim is [ ]
+refused_each text reading asked_by setting asking (refusal.NoOutput _) asked is = elim is [ ]
+refused_each text reading asked_by setting asking (refusal.Check _) asked is = elim is [ ]
+refused_each text reading asked_by setting asking (refusal.BadPart _ _) asked is = elim is [ ]
+refused_each text reading asked_by setting asking (refusal.Unaccepted _ _) asked is = elim is [ ]
+refused_each text reading asked_by setting asking (refusal.OtherCircuit _) asked is = elim is [ ]
+refused_each text reading asked_by setting asking (refusal.NotJoined _) asked is = elim is [ ]
+refused_each text reading asked_by setting asking (refusal.OtherQuestion _) asked is = elim is [ ]
+refused_each text reading asked_by setting asking refusal.TooLong asked is = elim is [ ]
+refused_each text reading asked_by setting asking refusal.OutOfTime asked is = elim is [ ]

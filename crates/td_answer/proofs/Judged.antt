@@ -22,7 +22,7 @@ use Rattle.td_lines.specs.declared.line.Line.{Line}
 use Rattle.td_lines.specs.declared.line.Line.TheVariants as line
 use Rattle.td_answer.specs.declared.status.Status.{Status}
 use Rattle.td_answer.specs.Claims.{accepted_line, claimed_line}
-use Rattle.td_answer.specs.Verdicts.{AreVerdictLines, AreRefusedLines, ending_by, IsTrueClaim, IsRejected, IsTrueVerdict}
+use Rattle.td_answer.specs.Verdicts.{AreVerdictLines, ending_by, IsTrueClaim, IsTrueOf, IsTrueVerdict}
 
 -- the line of two moments that are true is true
 moments_true : (setting : Setting) (asking : Asking) (c : Claim) → accepts.IsTrueClaim setting asking c → IsTrueClaim setting asking (accepted_line c.time c.high)
@@ -51,40 +51,29 @@ claim_true : (setting : Setting) (asking : Asking) (claim : Option Claim) → Is
 claim_true setting asking None is = is
 claim_true setting asking (Some claim) is = moments_true setting asking claim is
 
-module _ (text : List ℕ) (reading : Reading) (told : Told) (spelled : List ℕ) (certificate : Certificate) (report : List Line) where
-  rejected : (found : Verdict) → HaveVerdict text reading told spelled found → AreRefusedLines found report → IsRejected text reading told spelled report
-  rejected found has lines = record { found = found; has = has; is = lines }
-
-  by_verdict : (found : Verdict) → HaveVerdict text reading told spelled found → Spells certificate spelled
-      → (found ≡ verdict.Accepted → TellsTruth text reading spelled) → AreVerdictLines certificate found report
-      → IsTrueVerdict text reading told spelled report (ending_by found)
-  by_verdict verdict.Accepted have spells truth says =
+module _ (text : List ℕ) (reading : Reading) (told : Told) (spelled : List ℕ) (certificate : Certificate) where
+  true_of : HaveVerdict text reading told spelled verdict.Accepted → Spells certificate spelled → TellsTruth text reading spelled
+      → IsTrueOf text reading certificate
+  true_of have spells truth =
       let asked = asked_by text reading told spelled have in
       let same : have.certificate ≡ certificate = (spells_once have.certificate certificate spelled spelled [] have.spells spells (sym (append-nil spelled))).0 in
       let asks : AsksAbout text reading certificate asked.0 = subst (λ (c : Certificate). AsksAbout text reading c asked.0) same asked.1 in
       record {
         netlist = asked.0;
-        certificate = certificate;
-        spells = spells;
         asks = asks;
         acyclic = asked.2;
-        claim = claimed_line certificate.claim;
-        is_true = claim_true (setting_of asked.0 certificate) (asking_of certificate.question) certificate.claim (truth refl certificate spells asked.0 asks);
-        is = says;
+        is_true = claim_true (setting_of asked.0 certificate) (asking_of certificate.question) certificate.claim (truth certificate spells asked.0 asks);
       }
-  by_verdict verdict.PairTime have spells truth says = rejected verdict.PairTime have says
-  by_verdict (verdict.LeafBound line) have spells truth says = rejected (verdict.LeafBound line) have says
-  by_verdict (verdict.LeafAboveTime line) have spells truth says = rejected (verdict.LeafAboveTime line) have says
-  by_verdict (verdict.BadPosition line) have spells truth says = rejected (verdict.BadPosition line) have says
-  by_verdict (verdict.NotAPoint line) have spells truth says = rejected (verdict.NotAPoint line) have says
-  by_verdict verdict.OtherCircuit have spells truth says = rejected verdict.OtherCircuit have says
-  by_verdict verdict.PairNotAdmitted have spells truth says = rejected verdict.PairNotAdmitted have says
-  by_verdict (verdict.LeafNotEmpty line) have spells truth says = rejected (verdict.LeafNotEmpty line) have says
-  by_verdict (verdict.BadStep line flaw) have spells truth says = rejected (verdict.BadStep line flaw) have says
-  by_verdict (verdict.OtherQuestion line) have spells truth says = rejected (verdict.OtherQuestion line) have says
 
-  pub true_check : (found : Verdict) (ending : Status) → HaveVerdict text reading told spelled found → Spells certificate spelled
+  pub true_check : (report : List Line) (found : Verdict) (ending : Status) → HaveVerdict text reading told spelled found → Spells certificate spelled
       → (found ≡ verdict.Accepted → TellsTruth text reading spelled) → AreVerdictLines certificate found report → ending ≡ ending_by found
       → IsTrueVerdict text reading told spelled report ending
-  true_check found ending have spells truth says ends =
-      subst (λ (e : Status). IsTrueVerdict text reading told spelled report e) (sym ends) (by_verdict found have spells truth says)
+  true_check report found ending have spells truth says ends = record {
+    certificate = certificate;
+    spells = spells;
+    found = found;
+    has = have;
+    is = says;
+    ends = ends;
+    is_true = λ accepted. true_of (subst (λ (v : Verdict). HaveVerdict text reading told spelled v) accepted have) spells (truth accepted);
+  }

@@ -32,6 +32,8 @@ use Rattle.td_refutation.proofs.Asking.{nothing_kept}
 use Rattle.td_answer.specs.Outlooks.{HasLow, IsSample, IsLow, IsTrueLow, IsTrueOutlook, shown}
 use Rattle.td_refute.specs.Kept.{IsBoundAmong}
 use Rattle.td_lines.specs.declared.line.Found.TheVariants as found
+use Rattle.td_certificate.specs.declared.tree.BoundedBy.TheVariants as by
+use Rattle.td_answer.specs.Bounds.{IsSoundBound}
 use Rattle.td_answer.specs.Findings.{IsTrueFound}
 use Rattle.td_answer.specs.Tables.{IsTrueBound}
 use Rattle.td_answer.specs.declared.outlook.Outlook.{Outlook}
@@ -62,20 +64,20 @@ bound_among given asking high is = λ pair delay among has. is pair delay among.
 -- what the figures say of the pairs that are asked about
 module _ (given : Setting) (admit : Admitted) (high : ℕ) (bound : IsTrueBound given admit (Some high)) where
   pub at_most : (keep : List NamedCondition) → IsTrueFound given (record { admit = admit; keep = keep }) (found.AtMost high)
-  at_most keep = bound_among given (record { admit = admit; keep = keep }) high (bound high refl)
+  at_most keep = bound_among given (record { admit = admit; keep = keep }) high (bound.sound high refl)
 
   module _ (low : ℕ) (is_low : IsTrueLow given admit (Some low)) where
     pub exact : high ≤ low → IsTrueFound given (all_admitted admit) (found.Exact low)
     exact less =
         let some = is_low low refl in (
           (some.0, some.1.asked, some.1.delays),
-          λ pair delay among has. (let below = bound high refl pair delay among.admitted.pinned has in omega (arith, below, less)),
+          λ pair delay among has. (let below = bound.sound high refl pair delay among.admitted.pinned has in omega (arith, below, less)),
         )
 
     pub between : low ≤ high → IsTrueFound given (all_admitted admit) (found.Between low high)
     between less =
         let some = is_low low refl in
-        record { pair = some.0; has = some.1; greatest = bound_among given (all_admitted admit) high (bound high refl); ordered = less }
+        record { pair = some.0; has = some.1; greatest = bound_among given (all_admitted admit) high (bound.sound high refl); ordered = less }
 
 -- as many positions as two for each input
 pub pins_long : {n : ℕ} (pins : List Trit) (held : List Bool) → length pins ≡ 2 * length held → length held ≡ n → length pins ≡ 2 * n
@@ -110,13 +112,12 @@ module _ (circuit : Numbered) (numbering : IsNumbering circuit) where
     there : slice_get (nets circuit) net ≡ Some (Named name)
     there = numbering.outputs.each place net (Named name) at_net (slice_get-map_some (λ n. Named n) circuit.netlist.outputs place name at_name)
 
-    -- the signal of an output bounds it
+    -- the bound by edges of an output alone is that of its signal
     pub bound_alone : (fit : AreMoments circuit.netlist circuit.moments) (cube : List Trit) (count : length cube ≡ 2 * length circuit.netlist.inputs)
         (front : List Signal) (whole : length front ≡ length (nets circuit))
         (is_front : AreFirstSignals edge_functions (λ signal. span_reach signal.changes) circuit cube front)
-        (signal : Signal) → slice_get front net ≡ Some signal → (moment : ℕ) → edge_functions.last_of signal ≡ Some moment
-        → IsUpperBoundIn (alone (setting circuit) name) cube moment
-    bound_alone fit cube count front whole is_front signal at_front moment last = λ pair delay is_in has.
+        (signal : Signal) → slice_get front net ≡ Some signal → IsSoundBound by.Edges (alone (setting circuit) name) cube (edge_functions.last_of signal)
+    bound_alone fit cube count front whole is_front signal at_front =
         let asked = with_named_outputs circuit (name ∷ []) (net ∷ []) in
         let can = one_can circuit circuit.netlist.outputs circuit.outputs place name net asked_now at_name at_net in
         let signals = λ (n : Net). net_value (edge_functions.constant_of false) (nets circuit) front n in
@@ -126,12 +127,14 @@ module _ (circuit : Numbered) (numbering : IsNumbering circuit) where
         let is : signals (Named name) ≡ signal =
         value_at (edge_functions.constant_of false) circuit numbering front whole net (Named name) there
         ∙ slice_get-get front net signal (edge_functions.constant_of false) at_front in
-        let greatest : greatest_bound (map (λ n. edge_functions.last_of (signals (Named n))) (name ∷ [])) ≡ Some moment =
-        sym (only (edge_functions.last_of (signals (Named name)))) ∙ ap edge_functions.last_of is ∙ last in
-        let latest = no_later EdgesCover edge_functions covers_input covers_constant covers_gate asked
-        (numbering_asked circuit (name ∷ []) (net ∷ []) can numbering) (record { count = fit.count; within = fit.within }) cube count
-        signals are pair is_in has.waves has.runs quiet_after_last moment greatest in
-        rw has.is_latest latest
+        let greatest : edge_functions.last_of signal ≡ greatest_bound (map (λ n. edge_functions.last_of (signals (Named n))) (name ∷ [])) =
+        sym (ap edge_functions.last_of is) ∙ only (edge_functions.last_of (signals (Named name))) in
+        record {
+          is = record { signals = signals; are_signals = are; is_greatest = greatest };
+          sound = λ moment last pair delay is_in has. (let latest = no_later EdgesCover edge_functions covers_input covers_constant covers_gate asked
+              (numbering_asked circuit (name ∷ []) (net ∷ []) can numbering) (record { count = fit.count; within = fit.within }) cube count
+              signals are pair is_in has.waves has.runs quiet_after_last moment (sym greatest ∙ last) in rw has.is_latest latest);
+        }
 
     -- its last change in a run is the pair's delay
     pub delay_alone : (pair : Pair) (waves : List Wave) → length waves ≡ length (nets circuit)
@@ -180,7 +183,8 @@ module _ (circuit : Numbered) (numbering : IsNumbering circuit) where
         → IsTrueOutlook (alone (setting circuit) name) admit outlook
     true_outlook fit admit count front whole is_front sample is_sample signal at_front outlook last low pair =
         let has : HasLow (alone (setting circuit) name) admit (shown outlook.pair) outlook.low = rw pair (low_alone admit sample is_sample outlook.low low) in record {
-          bound = λ moment is. bound_alone fit admit.pins count front whole is_front signal at_front moment (sym last ∙ is);
+          bound = subst (λ (e : Option ℕ). IsTrueBound (alone (setting circuit) name) admit e) (sym last)
+              (bound_alone fit admit.pins count front whole is_front signal at_front);
           low = λ moment is. some_has (alone (setting circuit) name) (all_admitted admit) moment (shown outlook.pair) (has moment is);
           pair = has;
         }

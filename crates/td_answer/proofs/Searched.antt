@@ -14,6 +14,7 @@ use Rattle.td_domain.specs.Pairs.{Pair}
 use Rattle.td_domain.specs.Cubes.{AllowsBits}
 use Rattle.td_domain.specs.Admits.{Admitted}
 use Rattle.td_domain.specs.Worst.{IsUpperBound}
+use Rattle.td_refutation.specs.Asking.{Asking}
 use Rattle.td_refutation.specs.declared.conditions.NamedCondition.{NamedCondition}
 use Rattle.td_certificate.specs.declared.certificate.Certificate.{Certificate}
 use Rattle.td_certificate.specs.declared.tree.Node.{Node}
@@ -33,7 +34,7 @@ use Rattle.td_worst.specs.Kept.{claim_to}
 use Rattle.td_worst.specs.Methods.{IsAnswerBy, IsSoundAnswer, high_of}
 use Rattle.td_worst.proofs.Outcomes.{outcome_by}
 use Rattle.td_request.specs.declared.request.Search.{Search}
-use Rattle.td_question.specs.Asking.{IsAsked}
+use Rattle.td_question.specs.Asking.{IsAsked, IsAskedKeeping}
 use Rattle.td_question.proofs.Questions.{asked_flips}
 use Rattle.td_lines.specs.declared.line.Line.{Line}
 use Rattle.td_lines.specs.declared.line.Line.TheVariants as line
@@ -246,9 +247,9 @@ module _ (text : List ℕ) (reading : Reading) (ended : Ended) (circuit : Number
 
 -- ---- no answer
 
-pub refused : (text : List ℕ) (reading : Reading) (asked_by : Search) (circuit : Numbered) (admit : Admitted) (by : Strategy)
-    → IsAsked text reading asked_by.question (setting circuit) admit → (reason : SearchFault) → IsSearchFault (problem_by by circuit admit) reason
+pub refused : (text : List ℕ) (reading : Reading) (asked_by : Search) (circuit : Numbered) (asking : Asking) (by : Strategy)
+    → IsAskedKeeping text reading asked_by.question (setting circuit) asking → (reason : SearchFault) → IsSearchFault (problem_by by circuit asking.admit) reason
     → IsRefusedSearch text reading asked_by (refusal.Search reason)
-refused text reading asked_by circuit admit by asked search.NoPair none =
-    (setting circuit, admit, asked, λ pair admitted. none (pair, admitted, admitted.pinned))
-refused text reading asked_by circuit admit by asked search.OutOfMemory none = tt
+refused text reading asked_by circuit asking by asked search.NoPair none =
+    (setting circuit, asking, asked, λ pair admitted. none (pair, admitted, admitted.pinned))
+refused text reading asked_by circuit asking by asked search.OutOfMemory none = tt

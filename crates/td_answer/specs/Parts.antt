@@ -5,7 +5,8 @@ use Rattle.std.specs.List.{flat_map}
 use Rattle.td_reading.specs.declared.reading.Reading.{Reading}
 use Rattle.td_circuit.specs.Settings.{Setting}
 use Rattle.td_domain.specs.declared.cubes.Trit.{Trit}
-use Rattle.td_domain.specs.Admits.{Admitted, HasAdmitted}
+use Rattle.td_domain.specs.Admits.{HasAdmitted}
+use Rattle.td_refutation.specs.Asking.{Asking}
 use Rattle.td_certificate.specs.Text.{row, trit, first_trits, second_trits}
 use Rattle.td_search.specs.Problems.{IsPart}
 use Rattle.td_search.specs.declared.answers.SearchFault.TheVariants as search
@@ -14,7 +15,7 @@ use Rattle.td_join.specs.Partition.{IsPartition}
 use Rattle.td_parts.specs.Whole.{IsWhole}
 use Rattle.td_inputs.specs.Placings.{Placed, text_of}
 use Rattle.td_request.specs.declared.request.Parts.{Parts}
-use Rattle.td_question.specs.Asking.{IsAsked, IsQuestionFault, SayTogether, taken_of}
+use Rattle.td_question.specs.Asking.{IsAskedKeeping, IsQuestionFault, SayTogether, taken_of}
 use Rattle.td_question.specs.Keeping.{keep_texts}
 use Rattle.td_lines.specs.declared.line.Line.{Line}
 use Rattle.td_lines.specs.declared.line.Line.TheVariants as line
@@ -98,17 +99,17 @@ HasParts options other = ⊥
 -- the request say together.
 pub record IsTrueParts (text : List ℕ) (reading : Reading) (asked : Parts) (outcome : Outcome) : Type 0 where
   pub setting : Setting
-  pub admit : Admitted
-  pub about : IsAsked text reading asked.question setting admit
+  pub asking : Asking
+  pub about : IsAskedKeeping text reading asked.question setting asking
   pub words : Placed
   pub together : SayTogether setting.netlist asked.question.inputs words
   pub cubes : List (List Trit)
-  pub partition : IsPartition admit cubes
+  pub partition : IsPartition asking.admit cubes
   pub any : 0 < length cubes
   pub few : length cubes ≤ asked.count.parts
   pub enough : length cubes < asked.count.parts → All (IsWhole (tree_of (method_of asked.strategy)) setting) cubes
-  pub some : All (HasAdmitted admit) cubes
-  pub inside : All (λ cube. IsPart cube admit.pins) cubes
+  pub some : All (HasAdmitted asking.admit) cubes
+  pub inside : All (λ cube. IsPart cube asking.admit.pins) cubes
   pub told : Line
   pub has : HasParts (options_of reading asked words cubes) told
   pub is : outcome.report ≡ told ∷ []

@@ -8,7 +8,7 @@ use Rattle.td_circuit.specs.Settings.{Setting}
 use Rattle.td_domain.specs.Pairs.{Pair}
 use Rattle.td_domain.specs.Admits.{Admitted, IsAdmitted}
 use Rattle.td_refutation.specs.Asking.{Asking}
-use Rattle.td_domain.specs.Bounds.{IsUpperBoundIn}
+use Rattle.td_certificate.specs.declared.tree.BoundedBy.TheVariants as by
 use Rattle.td_refute.specs.Kept.{IsBoundAmong}
 use Rattle.td_search.specs.declared.answers.SearchFault.TheVariants as failed
 use Rattle.td_request.specs.declared.request.Search.{Search}
@@ -20,6 +20,7 @@ use Rattle.td_lines.specs.declared.line.Standing.{Standing}
 use Rattle.td_lines.specs.declared.line.Standing.TheVariants as standing
 use Rattle.td_lines.specs.declared.line.Line.{Line}
 use Rattle.td_lines.specs.declared.line.Line.TheVariants as line
+use Rattle.td_answer.specs.Bounds.{IsSoundBound}
 use Rattle.td_answer.specs.Heads.{head_lines}
 use Rattle.td_answer.specs.Kept.{HasDelayAmong}
 use Rattle.td_answer.specs.Names.{label}
@@ -34,9 +35,9 @@ use Rattle.td_answer.specs.declared.refusal.Refusal.TheVariants as refusal
 use Rattle.td_answer.specs.declared.status.Status.{Status}
 use Rattle.td_answer.specs.declared.status.Status.TheVariants as status
 
--- no pair of the pins changes an output after the bound, where there is one
+-- it is the bound by edges of the pins, after which no pair of them changes an output
 abbrev pub IsTrueBound : Setting → Admitted → Option ℕ → Type 0
-IsTrueBound setting admit bound = (moment : ℕ) → bound ≡ Some moment → IsUpperBoundIn setting admit.pins moment
+IsTrueBound setting admit bound = IsSoundBound by.Edges setting admit.pins bound
 
 -- the figures and the bound by edges are true of the pairs that are asked about in this setting
 pub record AreTrueFigures (setting : Setting) (asking : Asking) (figures : Found) (edges : Option ℕ) : Type 0 where

@@ -12,14 +12,14 @@ use Rattle.td_circuit.specs.Loops.{Loop}
 use Rattle.td_certificate.specs.declared.certificate.Certificate.{Certificate}
 use Rattle.td_certificate.specs.Questions.{asking_of}
 use Rattle.td_certificate.specs.Accepts.{setting_of, AsksNone, IsBoundOf}
-use Rattle.td_certificate.specs.Spelling.{Spells, version_in}
+use Rattle.td_certificate.specs.Spelling.{Spells}
 use Rattle.td_checker.specs.declared.verdict.Verdict.{Verdict}
 use Rattle.td_checker.specs.declared.verdict.Verdict.TheVariants as verdict
 use Rattle.td_checker.specs.Verdicts.{verdict_number, verdict_name, verdict_line}
 use Rattle.td_checker.specs.Checks.{AsksAbout, HaveVerdict, IsCheckFault}
 use Rattle.td_lines.specs.declared.line.Line.{Line}
 use Rattle.td_lines.specs.declared.line.Line.TheVariants as line
-use Rattle.td_answer.specs.Claims.{claim_lines, question_lines}
+use Rattle.td_answer.specs.Claims.{claim_lines, claimed_line}
 use Rattle.td_answer.specs.declared.outcome.Outcome.{Outcome}
 use Rattle.td_answer.specs.declared.refusal.Refusal.{Refusal}
 use Rattle.td_answer.specs.declared.refusal.Refusal.TheVariants as refusal
@@ -62,31 +62,25 @@ IsTrueClaim setting asking (line.AcceptedBetween time high) = IsReached setting 
 IsTrueClaim setting asking line.AcceptedNone = AsksNone setting.netlist asking
 IsTrueClaim setting asking other = ⊥
 
--- The certificate is accepted: its text spells it, and of the pairs that it asks about, in the
--- netlist that it asks about and with its moments, the first line is true. The others say what it
--- is about.
-pub record IsAccepted (text : List ℕ) (reading : Reading) (spelled : List ℕ) (report : List Line) : Type 0 where
+-- What the certificate claims is true of the pairs that it asks about, in the netlist that it asks
+-- about, which has no loop, and with its moments.
+pub record IsTrueOf (text : List ℕ) (reading : Reading) (certificate : Certificate) : Type 0 where
   pub netlist : Netlist
-  pub certificate : Certificate
-  pub spells : Spells certificate spelled
   pub asks : AsksAbout text reading certificate netlist
   pub acyclic : ¬ Loop netlist
-  pub claim : Line
-  pub is_true : IsTrueClaim (setting_of netlist certificate) (asking_of certificate.question) claim
-  pub is : report ≡ claim ∷ question_lines (version_in certificate) certificate.question
+  pub is_true : IsTrueClaim (setting_of netlist certificate) (asking_of certificate.question) (claimed_line certificate.claim)
 
--- one line refuses the certificate, by its verdict
-pub record IsRejected (text : List ℕ) (reading : Reading) (told : Told) (spelled : List ℕ) (report : List Line) : Type 0 where
+-- The text spells a certificate, which has this verdict. One line refuses it by its verdict; or it
+-- is accepted, its first line is true, and the others say what it is about. The request ends with
+-- status 0 just where it is accepted.
+pub record IsTrueVerdict (text : List ℕ) (reading : Reading) (told : Told) (spelled : List ℕ) (report : List Line) (ending : Status) : Type 0 where
+  pub certificate : Certificate
+  pub spells : Spells certificate spelled
   pub found : Verdict
   pub has : HaveVerdict text reading told spelled found
-  pub is : AreRefusedLines found report
-
--- the request ends with status 0 where the certificate is accepted, and with no other where it
--- isn't
-abbrev pub IsTrueVerdict : List ℕ → Reading → Told → List ℕ → List Line → Status → Type 0
-IsTrueVerdict text reading told spelled report status.Done = IsAccepted text reading spelled report
-IsTrueVerdict text reading told spelled report status.Rejected = IsRejected text reading told spelled report
-IsTrueVerdict text reading told spelled report other = ⊥
+  pub is : AreVerdictLines certificate found report
+  pub ends : ending ≡ ending_by found
+  pub is_true : found ≡ verdict.Accepted → IsTrueOf text reading certificate
 
 abbrev pub IsTrueCheck : List ℕ → Reading → Told → List ℕ → Outcome → Type 0
 IsTrueCheck text reading told spelled outcome = IsTrueVerdict text reading told spelled outcome.report outcome.status

@@ -26,8 +26,9 @@ rows-requires-clause-held g c κs lives =
 pub returns-in_err-rows-clause-refusal : goal.returns-in_err-rows-clause-refusal
 returns-in_err-rows-clause-refusal g c =
     let reported = err_from_is_err_and c.from_residual-in_err-rows.result c.from_residual-in_err-rows.ensures.1 in
-    rw (reported.1, reported.2) (refused_each c.args.text.now c.args.reading.now c.args.search.now (setting c.in_ok-circuit.field-0.circuit) c.in_ok-circuit.field-0.admit
-    _ c.in_ok-circuit.ensures.asked c.in_err-rows.ensures.refusal)
+    rw (reported.1, reported.2) (refused_each c.args.text.now c.args.reading.now c.args.search.now (setting c.in_ok-circuit.field-0.circuit)
+    (record { admit = c.in_ok-circuit.field-0.admit; keep = c.in_ok-circuit.field-0.keep.items })
+    _ (record { asked = c.in_ok-circuit.ensures.asked; keep = c.in_ok-circuit.ensures.keep }) c.in_err-rows.ensures.refusal)
 
 pub rows-requires-clause-outlooks : goal.rows-requires-clause-outlooks
 rows-requires-clause-outlooks g c κs lives =
@@ -37,8 +38,9 @@ rows-requires-clause-outlooks g c κs lives =
 pub returns-in_err-outlooks-clause-refusal : goal.returns-in_err-outlooks-clause-refusal
 returns-in_err-outlooks-clause-refusal g c =
     let reported = err_from_is_err_and c.from_residual-in_err-outlooks.result c.from_residual-in_err-outlooks.ensures.1 in
-    rw (reported.1, reported.2) (refused_each c.args.text.now c.args.reading.now c.args.search.now (setting c.in_ok-circuit.field-0.circuit) c.in_ok-circuit.field-0.admit
-    (refusal.Search c.in_err-outlooks.field-0.0) c.in_ok-circuit.ensures.asked c.in_err-outlooks.ensures.fault)
+    rw (reported.1, reported.2) (refused_each c.args.text.now c.args.reading.now c.args.search.now (setting c.in_ok-circuit.field-0.circuit)
+    (record { admit = c.in_ok-circuit.field-0.admit; keep = c.in_ok-circuit.field-0.keep.items })
+    (refusal.Search c.in_err-outlooks.field-0.0) (record { asked = c.in_ok-circuit.ensures.asked; keep = c.in_ok-circuit.ensures.keep }) c.in_err-outlooks.ensures.fault)
 
 pub returns-in_err-push_rows-clause-refusal : goal.returns-in_err-push_rows-clause-refusal
 returns-in_err-push_rows-clause-refusal g c =

@@ -26,7 +26,8 @@ outcome_of-requires g c = record {
 pub returns-in_err-found-clause-refusal : goal.returns-in_err-found-clause-refusal
 returns-in_err-found-clause-refusal g c =
     let reported = err_from_is_err_and c.from_residual.result c.from_residual.ensures.1 in
-    rw (reported.1, reported.2) (refused c.args.text.now c.args.reading.now c.args.search.now c.args.asked.circuit c.args.asked.admit Lead c.requires.asked
+    rw (reported.1, reported.2) (refused c.args.text.now c.args.reading.now c.args.search.now c.args.asked.circuit
+    (record { admit = c.args.asked.admit; keep = c.args.asked.keep.items }) Lead (record { asked = c.requires.asked; keep = c.requires.keep })
     c.in_err-found.field-0.0 c.in_err-found.ensures.fault)
 
 pub returns-clause-says : goal.returns-clause-says

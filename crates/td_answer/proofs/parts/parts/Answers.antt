@@ -14,15 +14,16 @@ invariant_of-problem c = record {
 
 pub returns-then-is_empty-clause-refusal : goal.returns-then-is_empty-clause-refusal
 returns-then-is_empty-clause-refusal c =
-    no_parts c.args.text.now c.args.reading.now c.args.asked.now.question (setting c.in_ok-about.about.circuit) c.in_ok-about.about.admit c.in_ok-cubes.cubes.items
-    c.in_ok-about.ensures.asked c.in_ok-cubes.ensures.partition
+    no_parts c.args.text.now c.args.reading.now c.args.asked.now.question (setting c.in_ok-about.about.circuit)
+    (record { admit = c.in_ok-about.about.admit; keep = c.in_ok-about.about.keep.items }) c.in_ok-cubes.cubes.items
+    (record { asked = c.in_ok-about.ensures.asked; keep = c.in_ok-about.ensures.keep }) c.in_ok-cubes.ensures.partition
     (no_rows c.in_ok-cubes.cubes.items (sym c.in_ok-cubes.cubes.ok.0 ∙ eqb-true _ _ (sym c.is_empty.ensures ∙ c.if-is_empty.true)))
 
 pub returns-clause-says : goal.returns-clause-says
 returns-clause-says c = record {
   setting = setting c.in_ok-about.about.circuit;
-  admit = c.in_ok-about.about.admit;
-  about = c.in_ok-about.ensures.asked;
+  asking = record { admit = c.in_ok-about.about.admit; keep = c.in_ok-about.about.keep.items };
+  about = record { asked = c.in_ok-about.ensures.asked; keep = c.in_ok-about.ensures.keep };
   words = words_by_place c.in_ok-about.about.words;
   together = c.in_ok-about.ensures.together;
   cubes = c.in_ok-cubes.cubes.items;

@@ -44,8 +44,9 @@ outcome_of-requires g c =
 pub returns-in_err-found-clause-refusal : goal.returns-in_err-found-clause-refusal
 returns-in_err-found-clause-refusal g c =
     let reported = err_from_is_err_and c.from_residual-in_err-found.result c.from_residual-in_err-found.ensures.1 in
-    rw (reported.1, reported.2) (refused c.args.text.now c.args.reading.now c.args.search.now c.in_ok-asked.asked.circuit c.in_ok-asked.asked.admit
-    (tree_of c.method_of-method.result) c.in_ok-asked.ensures.asked c.in_err-found.field-0.0 c.in_err-found.ensures.fault)
+    rw (reported.1, reported.2) (refused c.args.text.now c.args.reading.now c.args.search.now c.in_ok-asked.asked.circuit
+    (record { admit = c.in_ok-asked.asked.admit; keep = c.in_ok-asked.asked.keep.items })
+    (tree_of c.method_of-method.result) (record { asked = c.in_ok-asked.ensures.asked; keep = c.in_ok-asked.ensures.keep }) c.in_err-found.field-0.0 c.in_err-found.ensures.fault)
 
 pub returns-clause-says : goal.returns-clause-says
 returns-clause-says g c =
