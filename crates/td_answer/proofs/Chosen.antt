@@ -13,7 +13,7 @@ use Rattle.td_answer.specs.declared.outcome.Outcome.{Outcome}
 use Rattle.td_answer.specs.Certified.{IsCertified}
 use Rattle.td_answer.specs.Conditions.{IsTrueBy, IsTrueSearch, IsCertifiedBy, IsCertifiedFor}
 use Rattle.td_answer.specs.Kept.{has_some, has_conditions, IsTrueKept, IsCertifiedAmong}
-use Rattle.td_answer.specs.Answered.{PrintsAnswer, PrintsAnswerBy, IsPrintOfSearch}
+use Rattle.td_answer.specs.Answered.{PrintsAnswer, PrintsKept, PrintsAnswerBy, IsPrintOfSearch}
 use Rattle.td_answer.specs.Sentences.{IsTrueWorst}
 
 none_in : {A : Type 0} (x : A) → Contains [] x → ⊥
@@ -67,5 +67,5 @@ pub printed_without : (can_stop : Bool) (text : List ℕ) (reading : Reading) (s
 printed_without can_stop text reading search outcome none is = subst (λ (b : Bool). PrintsAnswerBy b can_stop text reading search outcome) (sym none) is
 
 pub printed_with : (can_stop : Bool) (text : List ℕ) (reading : Reading) (search : Search) (outcome : Outcome) → has_conditions search.question ≡ true
-    → IsPrintOfSearch can_stop text reading search outcome
-printed_with can_stop text reading search outcome some = subst (λ (b : Bool). PrintsAnswerBy b can_stop text reading search outcome) (sym some) tt
+    → PrintsKept can_stop text reading search outcome → IsPrintOfSearch can_stop text reading search outcome
+printed_with can_stop text reading search outcome some is = subst (λ (b : Bool). PrintsAnswerBy b can_stop text reading search outcome) (sym some) is

@@ -1,5 +1,5 @@
 -- From the answer of a search for the pairs that keep conditions to the sentences.
-use Rattle.std.proofs.Common.{◌≡◌, ◌∙◌, ℕ, ◌≤◌, ◌+◌, List, [], ◌∷◌, ◌++◌, length, refl, sym, ap, subst, arith, append_assoc, inl, inr}
+use Rattle.std.proofs.Common.{◌≡◌, ◌∙◌, ℕ, ◌≤◌, ◌+◌, List, [], ◌∷◌, ◌++◌, length, refl, sym, ap, subst, arith, append_assoc, append-nil, inl, inr}
 use Rattle.std.specs.Prelude.{Option, Some, None, IfSome, min, option_map}
 use Rattle.std.specs.List.{Contains}
 use Rattle.td_reading.specs.declared.reading.Reading.{Reading}
@@ -41,6 +41,10 @@ use Rattle.td_answer.specs.Requirements.{required_lines, cause_by, ending_by}
 use Rattle.td_answer.proofs.Standing.{tells, tells_bound}
 use Rattle.td_answer.proofs.Searched.{delay_fits}
 use Rattle.td_answer.proofs.Works.{works}
+
+-- nothing comes after these lines
+pub whole : (report lines : List Line) → report ≡ lines → (more : List Line) × (report ≡ lines ++ more)
+whole report lines is = ([], is ∙ sym (append-nil lines))
 
 -- the pair has a bit in each vector for each input
 pub best_fits : (circuit : Numbered) (asking : Asking) (best : Timed) → IsTimedAmong (setting circuit) asking best

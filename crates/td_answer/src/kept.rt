@@ -13,6 +13,8 @@ ghost use Rattle.td_source.specs.Reads.{AreOutputsOf};
 ghost use Rattle.td_worst.specs.Kept.{asking_by, certificate_with, claim_of, IsKeptAnswer};
 ghost use Rattle.td_worst.specs.Supports.{IsSupportAmong};
 ghost use Rattle.td_lines.specs.declared.line.Line.TheVariants as line;
+ghost use Rattle.td_lines.specs.declared.line.Line.{Line as Printed};
+ghost use Rattle.td_answer.specs.Answered.{PrintsKept, kept_lines};
 ghost use Rattle.td_answer.specs.Heads.{head_lines};
 ghost use Rattle.td_answer.specs.Lines.{exact_lines, between_lines, at_most_lines, whole_lines};
 ghost use Rattle.td_answer.specs.Runs.{RunsPair, TellsPair};
@@ -215,6 +217,7 @@ fn outcome_of(
         → AreOutputsOf text reading (option_map (λ numbers. numbers.items) told.outputs) → told.default ≡ reading.default
         → IsCertifiedAmong text reading ended.entry.search.now outcome.report outcome.certificate) }
     ensures written { IfOk result CanBeWritten }
+    ensures printed { IfOk result (λ outcome. (more : List Printed) × (outcome.report ≡ (head_lines circuit.netlist ++ kept_lines ended.entry answer) ++ more)) }
 {
     // For the prover: the circuit's numbering.
     let _gates = circuit.gates();
@@ -267,6 +270,7 @@ pub(crate) fn worst_kept<'n, 'w, R: Threads + Wait + Sync>(
     ensures says { IfOk result (IsTrueKept text.now reading.now search.now) }
     ensures certified { IfOk result (λ outcome. IsCertifiedAmong text.now reading.now search.now outcome.report outcome.certificate) }
     ensures written { IfOk result CanBeWritten }
+    ensures printed { IfOk result (PrintsKept stop.now.can_be_set text.now reading.now search.now) }
     ensures refusal { IfErr result (IsRefusedSearch text.now reading.now search.now) }
 {
     let Asked {

@@ -4,6 +4,7 @@ use Rattle.td_worst.specs.Kept.{asking_by}
 use Rattle.td_answer.specs.Runs.{RunsPair}
 use Rattle.td_answer.proofs.KeptOnes.{best_fits, exact_says, between_says, at_most_says, none_says, exact_kept, none_kept, between_kept, open_kept, certificate_written, open_written}
 use Rattle.td_answer.proofs.Writable.{certificate_and_dump, spelled_and_dump}
+use Rattle.td_answer.proofs.KeptOnes.{whole}
 use Rattle.td_answer.proofs.kept.outcome_of.Goals as goal
 
 pub exact-requires-clause-first_fits : goal.exact-requires-clause-first_fits
@@ -89,3 +90,18 @@ returns-in_ok-empty-in-NoPair-clause-written c =
     (certificate_written c.args.circuit c.args.admit c.args.told None c.in-NoPair.tree (rw c.in-NoPair.is at c.requires.answer).1
     c.in_ok-empty-in-NoPair.ensures.told c.in_ok-empty-in-NoPair.ensures.few)
     c.in_ok-empty-in-NoPair.ensures.dumped
+
+pub returns-in_ok-closed-in-Exact-clause-printed : goal.returns-in_ok-closed-in-Exact-clause-printed
+returns-in_ok-closed-in-Exact-clause-printed c =
+    rw c.in-Exact.is (c.in_ok-closed-in-Exact.ensures.report.0, c.in_ok-closed-in-Exact.ensures.report.1)
+
+pub returns-in_ok-lying-in-Between-clause-printed : goal.returns-in_ok-lying-in-Between-clause-printed
+returns-in_ok-lying-in-Between-clause-printed c =
+    rw c.in-Between.is (c.in_ok-lying-in-Between.ensures.report.0, rw c.cause-why.ensures at c.in_ok-lying-in-Between.ensures.report.1)
+
+pub returns-in_ok-bounded-in-Open-clause-printed : goal.returns-in_ok-bounded-in-Open-clause-printed
+returns-in_ok-bounded-in-Open-clause-printed c =
+    rw c.in-Open.is (whole _ _ (rw c.cause-why-in-Open.ensures at c.in_ok-bounded-in-Open.ensures.report))
+
+pub returns-in_ok-empty-in-NoPair-clause-printed : goal.returns-in_ok-empty-in-NoPair-clause-printed
+returns-in_ok-empty-in-NoPair-clause-printed c = rw c.in-NoPair.is (whole _ _ c.in_ok-empty-in-NoPair.ensures.report)

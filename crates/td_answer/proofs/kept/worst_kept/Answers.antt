@@ -37,3 +37,17 @@ returns-clause-says g c =
 pub returns-clause-certified : goal.returns-clause-certified
 returns-clause-certified g c =
     c.in_ok-outcome.ensures.certified c.args.text.now c.args.reading.now (record { asked = c.requires.asked; keep = c.requires.keep }) c.requires.outputs refl
+
+pub returns-clause-printed : goal.returns-clause-printed
+returns-clause-printed g c = record {
+  setting = setting c.args.asked.circuit;
+  asking = record { admit = c.args.asked.admit; keep = c.args.asked.keep.items };
+  asked = record { asked = c.requires.asked; keep = c.requires.keep };
+  found = c.in_ok-found.found.answer;
+  edges = c.in_ok-found.ensures.edges;
+  timely = rw c.limits_of-limits.ensures.stop at c.in_ok-found.ensures.time;
+  ended = record { search = c.args.search; was_asked = c.was_asked.result; work = c.in_ok-found.found.work };
+  of = refl;
+  more = c.in_ok-outcome.ensures.printed.0;
+  printed = c.in_ok-outcome.ensures.printed.1;
+}

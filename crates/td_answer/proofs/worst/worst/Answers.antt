@@ -8,7 +8,7 @@ use Rattle.td_worst.proofs.Outcomes.{outcome_by}
 use Rattle.td_question.proofs.Questions.{asked_held, asked_flips}
 use Rattle.td_answer.specs.OpenCertificates.{told_with}
 use Rattle.std.specs.Prelude.{is_some}
-use Rattle.td_answer.specs.Answered.{IsPrintOfSearch}
+use Rattle.td_answer.specs.Answered.{IsPrintOfSearch, PrintsKept}
 use Rattle.td_answer.specs.Conditions.{IsTrueSearch, IsCertifiedFor}
 use Rattle.td_answer.specs.Kept.{IsTrueKept, IsCertifiedAmong}
 use Rattle.td_answer.specs.Lines.{pair_in}
@@ -134,8 +134,9 @@ returns-clause-answered g c =
 
 pub returns-then-not-is_empty-clause-answered : goal.returns-then-not-is_empty-clause-answered
 returns-then-not-is_empty-clause-answered g c =
-    IfOk-weaker c.worst_kept.result (IsTrueKept c.args.text.now c.args.reading.now c.args.search.now) (IsPrintOfSearch c.args.stop.now.can_be_set c.args.text.now c.args.reading.now c.args.search.now)
+    IfOk-weaker c.worst_kept.result (PrintsKept c.args.stop.now.can_be_set c.args.text.now c.args.reading.now c.args.search.now)
+    (IsPrintOfSearch c.args.stop.now.can_be_set c.args.text.now c.args.reading.now c.args.search.now)
     (λ outcome is. printed_with c.args.stop.now.can_be_set c.args.text.now c.args.reading.now c.args.search.now outcome
     (with_some c.args.search.now.question c.in_ok-asked.asked.circuit.netlist c.in_ok-asked.asked.keep.items c.in_ok-asked.ensures.keep
-    (λ none. eqb-false _ _ (sym c.is_empty.ensures ∙ c.if-not-is_empty.true) (c.in_ok-asked.asked.keep.ok.0 ∙ ap (λ keep. length keep) none))))
-    c.worst_kept.ensures.says
+    (λ none. eqb-false _ _ (sym c.is_empty.ensures ∙ c.if-not-is_empty.true) (c.in_ok-asked.asked.keep.ok.0 ∙ ap (λ keep. length keep) none))) is)
+    c.worst_kept.ensures.printed
