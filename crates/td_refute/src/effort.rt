@@ -32,7 +32,7 @@ impl<'a> Effort<'a> {
         Effort {
             work: 1_000_000,
             workers: 1,
-            alone: 300_000_000,
+            alone: 30_000_000,
             words: u64::MAX,
             required: None,
             stop,

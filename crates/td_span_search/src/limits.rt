@@ -1,7 +1,7 @@
 //! How much a search does.
 
 // The first worker alone takes as many steps as one takes in so many rounds.
-const ROUNDS_ALONE: u64 = 30;
+const ROUNDS_ALONE: u64 = 10;
 
 const LEAST_SLICE: u64 = 50_000;
 
@@ -53,7 +53,7 @@ impl Limits {
             sweep: 20,
             dead: 4_000,
             words: u64::MAX,
-            alone: 300_000_000,
+            alone: 30_000_000,
         }
     }
 

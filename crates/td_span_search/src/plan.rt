@@ -39,7 +39,7 @@ impl<'a> Team<'a> {
             return Ok(());
         }
         if tree.moment >= top {
-            self.schedule.answered();
+            self.schedule.answered_by_team();
             return Ok(());
         }
         tree.void(&self.reach);
@@ -70,15 +70,22 @@ impl<'a> Team<'a> {
             self.question = Some(tree);
             return Ok(());
         }
+        self.question = Some(self.tree_of(moment)?);
+        Ok(())
+    }
+
+    // The question whether an output changes after a moment, the latest outputs first, each as so
+    // many cubes as there are workers: all of them ask about one output, whose lemmas serve the
+    // next one.
+    fn tree_of(&self, moment: u64) -> Result<Tree, AllocError> {
         let mut tree = Tree::new(self.alloc, moment);
         for output in &self.reach.late_outputs(self.alloc, self.network, moment)? {
             if let Some(first) = self.workers.first() {
                 let bits = first.search.active_bits(*output)?;
-                tree.add(*output, bits)?;
+                tree.add(*output, bits, self.workers.len())?;
             }
         }
-        self.question = Some(tree);
-        Ok(())
+        Ok(tree)
     }
 
     // A cube that took long is split; its worker goes on with its first side.

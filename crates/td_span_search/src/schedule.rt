@@ -79,6 +79,13 @@ impl Schedule {
         }
     }
 
+    /// Likewise by a team. The next new question stands lower each time: near the bottom one costs
+    /// as much as another.
+    pub fn answered_by_team(&mut self) {
+        self.is_again = true;
+        self.share = self.share.saturating_sub(1);
+    }
+
     /// A pair was found.
     pub fn found(&mut self) {
         self.share = 1;

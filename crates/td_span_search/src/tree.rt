@@ -80,9 +80,10 @@ impl Tree {
         }
     }
 
-    /// Adds the question about an output, which may be split at these bits. The error is out of
-    /// memory.
-    pub fn add(&mut self, output: Net, bits: Vec<CubeBit>) -> Result<(), AllocError> {
+    /// Adds the question about an output, which may be split at these bits, as so many cubes, where
+    /// it can be. The error is out of memory.
+    pub fn add(&mut self, output: Net, bits: Vec<CubeBit>, cubes: usize) -> Result<(), AllocError> {
+        let root = self.nodes.len();
         self.nodes.push(Node {
             output,
             cube: Vec::new(self.alloc),
@@ -93,6 +94,12 @@ impl Tree {
             sides: None,
             lemma: None,
         })?;
+        // Each split leaves one cube more.
+        for place in root..root.saturating_add(cubes.saturating_sub(1)) {
+            if !self.split(place)? {
+                return Ok(());
+            }
+        }
         Ok(())
     }
 
